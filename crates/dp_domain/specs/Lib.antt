@@ -1,0 +1,4 @@
+pub mod Atoms
+pub mod Sets
+pub mod States
+pub mod Faces

@@ -1,0 +1,130 @@
+// States: what each variable may still be.
+
+ghost use Rattle.std.specs.Prelude.{◌≡◌, ℕ, ◌^◌, ◌<◌, ◌↔◌, not, length, IfOk, OnOk, OnErr, IsTrue};
+ghost use Rattle.dp_base.specs.Lists.{Among};
+ghost use Rattle.dp_domain.specs.Sets.{IsDomain, greatest, least};
+ghost use Rattle.dp_domain.specs.States.{cut, entails, is_dead, values};
+
+use crate::{Atom, Dom, Memory, VarId};
+use std::marker::Model;
+
+/// A set of values for each variable, seen as the list of these sets.
+#[derive(Debug, Drop)]
+pub struct State {
+    sets: Vec<Dom>,
+}
+
+impl Model for State {
+    ghost use Rattle.std.specs.Prelude.{List, ℤ, ◌<◌, ◌^◌, length};
+
+    ghost Value = { List (List ℤ) };
+
+    ghost view = { λ s. s.sets.items };
+
+    ghost invariant = { λ s. length s.sets.items < 2 ^ 32 };
+}
+
+impl State {
+    /// The state of these sets, one for each variable in order of declaration.
+    pub fn new(sets: Vec<Dom>) -> State
+        requires { length sets.items < 2 ^ 32 }
+        ensures { result ≡ sets.items }
+    {
+        State { sets }
+    }
+
+    /// The number of variables.
+    pub fn len(&self) -> usize
+        ensures count { result ≡ length self.now }
+        ensures few { result < 2 ^ 32 }
+    {
+        self.sets.len()
+    }
+
+    /// Whether there is no variable.
+    pub fn is_empty(&self) -> bool
+        ensures { IsTrue result ↔ (length self.now ≡ 0) }
+    {
+        self.sets.is_empty()
+    }
+
+    /// Another state of the same sets.
+    pub fn copy(&self) -> Result<State, Memory>
+        ensures { IfOk result (λ s. s ≡ self.now) }
+    {
+        Ok(State {
+            sets: copies(&self.sets)?,
+        })
+    }
+
+    /// Whether some variable has no value left.
+    pub fn dead(&self) -> bool
+        ensures { result ≡ is_dead self.now }
+    {
+        self.sets.iter().any(|set| set.is_empty())
+    }
+
+    /// Whether each value of the atom's variable meets the atom.
+    pub fn entails(&self, atom: Atom) -> bool
+        requires { atom.var < length self.now }
+        ensures { result ≡ entails self.now atom }
+    {
+        self.set(atom.var()).entails(atom)
+    }
+
+    /// The least value of the variable; None exactly where it has none.
+    pub fn lower(&self, var: VarId) -> Option<i64>
+        requires { var < length self.now }
+        ensures least { result ≡ least (values self.now var) }
+        ensures domain { IsDomain (values self.now var) }
+    {
+        self.set(var).lower()
+    }
+
+    /// The greatest value of the variable; None exactly where it has none.
+    pub fn upper(&self, var: VarId) -> Option<i64>
+        requires { var < length self.now }
+        ensures greatest { result ≡ greatest (values self.now var) }
+        ensures domain { IsDomain (values self.now var) }
+    {
+        self.set(var).upper()
+    }
+
+    /// Whether the variable may be this number.
+    pub fn has(&self, var: VarId, number: i64) -> bool
+        requires { var < length self.now }
+        ensures { IsTrue result ↔ Among number (values self.now var) }
+    {
+        self.set(var).has(number)
+    }
+
+    /// Keeps the values that meet the atom, and answers whether the set changed. Want of memory
+    /// leaves the state as it was.
+    pub fn exclude(&mut self, atom: Atom) -> Result<bool, Memory>
+        requires { atom.var < length self.old }
+        ensures kept { OnOk result (self.new ≡ cut self.old atom) }
+        ensures changed { IfOk result (λ changed. changed ≡ not (entails self.old atom)) }
+        ensures err { OnErr result (self.new ≡ self.old) }
+    {
+        let set = &mut self.sets[atom.var().0 as usize];
+        Ok(set.exclude(atom))
+    }
+
+    /// The variable's values.
+    pub fn set(&self, var: VarId) -> &Dom
+        requires { var < length self.now }
+        ensures { result.now ≡ values self.now var }
+    {
+        &self.sets[var.0 as usize]
+    }
+}
+
+fn copies(sets: &Vec<Dom>) -> Result<Vec<Dom>, Memory>
+    ensures { IfOk result (λ copies. copies.items ≡ sets.now.items) }
+{
+    let mut copies = Vec::new(*sets.allocator());
+    for set in sets {
+        copies.push(set.copy()?)?;
+    }
+    Ok(copies)
+}
