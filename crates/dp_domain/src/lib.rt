@@ -5,9 +5,11 @@ mod atom;
 mod dom;
 mod rule;
 mod state;
+mod verdict;
 
 pub use atom::{Atom, Op, VarId};
 pub use dom::Dom;
 pub use dp_base::{Assignment, Memory, Name, Text};
 pub use rule::Rule;
 pub use state::State;
+pub use verdict::Verdict;

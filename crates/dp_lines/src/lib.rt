@@ -1,0 +1,8 @@
+// The lines of a log: what each says, and how it is spelled.
+#![tactic(auto)]
+
+mod line;
+mod lists;
+
+pub use line::{Claim, Line};
+pub use lists::{Literals, Numbers};

@@ -1,0 +1,90 @@
+// The parts of constraints, one variant for each kind.
+
+ghost use Rattle.std.specs.Prelude.{◌≡◌, ◌<◌, Some, IfOk, length, slice_get};
+ghost use Rattle.dp_domain.specs.Faces.{Covers};
+ghost use Rattle.dp_parts.specs.Parts.{ClashesPart, MeetsPart, face_of, label_of};
+ghost use Rattle.dp_parts.proofs.PartLaws.{part_deciding, part_exact, part_lawful, part_sound};
+
+use dp_domain::{Memory, Rule, State, VarId};
+use dp_rule_linear::LinLe;
+use std::marker::Model;
+
+/// A part of a constraint.
+#[derive(Debug, Drop)]
+pub enum Part {
+    LinLe(LinLe),
+}
+
+impl Rule for Part {
+    ghost face = { face_of };
+
+    ghost clashes = { ClashesPart };
+
+    ghost meets = { MeetsPart };
+
+    fn scope_len(&self) -> usize {
+        match self {
+            Part::LinLe(part) => part.scope_len(),
+        }
+    }
+
+    fn scope_at(&self, place: usize) -> VarId {
+        match self {
+            Part::LinLe(part) => part.scope_at(place),
+        }
+    }
+
+    fn clash(&self, state: &State) -> Result<bool, Memory> {
+        match self {
+            Part::LinLe(part) => part.clash(state),
+        }
+    }
+
+    ghost exact = { part_exact };
+
+    ghost lawful = { part_lawful };
+
+    ghost sound = { part_sound };
+
+    ghost deciding = { part_deciding };
+}
+
+/// The label of the part's kind, as logs name it.
+pub fn label(part: &Part) -> &'static str
+    ensures { result.now ≡ label_of part.now }
+{
+    match part {
+        Part::LinLe(_) => "linear",
+    }
+}
+
+/// The parts of one constraint, in order.
+#[derive(Debug, Drop)]
+pub struct Parts {
+    items: Vec<Part>,
+}
+
+impl Model for Parts {
+    ghost use Rattle.std.specs.Prelude.{List};
+    ghost use Rattle.dp_parts.specs.declared.part.Part.{Part};
+
+    ghost Value = { List Part };
+
+    ghost view = { λ parts. parts.items.items };
+}
+
+impl Parts {
+    /// These parts.
+    pub fn new(items: Vec<Part>) -> Parts
+        ensures { result ≡ items.items }
+    {
+        Parts { items }
+    }
+
+    /// The parts in order.
+    pub fn as_slice(&self) -> &[Part]
+        ensures { result.now ≡ self.now }
+    {
+        self.items.as_slice()
+    }
+}
