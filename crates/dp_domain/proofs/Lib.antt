@@ -1,3 +1,4 @@
 pub mod AtomLaws
 pub mod SetLaws
+pub mod SetSteps
 pub mod StateLaws
