@@ -1,0 +1,4 @@
+pub mod AtomLaws
+pub mod SetLaws
+pub mod SetSteps
+pub mod StateLaws
