@@ -51,6 +51,11 @@ Grows (Shown was) Hidden bytes = Unit {0}
 Grows (Shown was) (Shown now) bytes = now ≡ was ++ bytes
 Grows _ _ bytes = ⊥
 
+-- its bytes are not told
+abbrev pub IsUntold : Channel → Type 0
+IsUntold (Shown bytes) = ⊥
+IsUntold _ = Unit {0}
+
 -- writes appended a front of these bytes
 pub record GrowsByPart (was now : Channel) (bytes : List ℕ) : Type 0 where
   pub front : List ℕ

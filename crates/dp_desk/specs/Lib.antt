@@ -1,3 +1,7 @@
 pub mod Causes
 pub mod Channel
+pub mod Fields
+pub mod InMemory
+pub mod Places
 pub mod Sight
+pub mod Tells

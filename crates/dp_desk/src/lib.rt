@@ -2,7 +2,10 @@
 #![tactic(auto)]
 
 mod desk;
+mod memory_desk;
+mod storage;
 mod write;
 
 pub use desk::{Desk, Failed, In, Out};
+pub use memory_desk::MemoryDesk;
 pub use write::write_all;
