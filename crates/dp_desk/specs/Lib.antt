@@ -2,6 +2,8 @@ pub mod Causes
 pub mod Channel
 pub mod Fields
 pub mod InMemory
+pub mod Opened
 pub mod Places
 pub mod Sight
 pub mod Tells
+pub mod Untold

@@ -2,10 +2,12 @@
 #![tactic(auto)]
 
 mod desk;
+mod host_desk;
 mod memory_desk;
 mod storage;
 mod write;
 
 pub use desk::{Desk, Failed, In, Out};
+pub use host_desk::HostDesk;
 pub use memory_desk::MemoryDesk;
 pub use write::write_all;

@@ -1,6 +1,6 @@
 // What a desk in memory is made of: files by name, places in them, sheets that are written, and a count of calls.
 
-ghost use Rattle.std.specs.Prelude.{◌≡◌, ◌≤◌, ◌++◌, ◌==◌, Some, None, length, take, drop, min, option_map, IfSome, IfNone};
+ghost use Rattle.std.specs.Prelude.{◌≡◌, ◌≤◌, ◌++◌, ◌==◌, Some, None, length, take, drop, min, option_map, position, bytes_eq, IfSome, IfNone};
 ghost use Rattle.std.specs.List.{list_any};
 ghost use Rattle.dp_desk.specs.Channel.{Shut};
 ghost use Rattle.dp_desk.specs.InMemory.{held, raised};
@@ -37,6 +37,12 @@ pub(crate) fn count_call(calls: &mut u64, listed: &[u64]) -> bool
 pub(crate) fn find_file(files: &[(Name, Text)], name: &str) -> Option<usize>
     ensures found { IfSome result (λ at. held files.now name.now ≡ Some (bytes_at files.now at)) }
     ensures absent { IfNone result (held files.now name.now ≡ None) }
+{
+    place_of(files, name)
+}
+
+fn place_of(files: &[(Name, Text)], name: &str) -> Option<usize>
+    ensures { result ≡ position (λ file. bytes_eq file.0 name.now) files.now }
 {
     files
         .iter()
