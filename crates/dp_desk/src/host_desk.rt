@@ -1,12 +1,11 @@
 // The desk of the machine: files, and the standard output for the answer.
 
-ghost use Rattle.std.specs.Prelude.{◌≡◌, ◌<◌, ◌≤◌, ℕ, length, IfOk};
-ghost use Rattle.dp_desk.specs.Channel.{Hidden};
-ghost use Rattle.dp_desk.specs.Opened.{stream, untold};
-ghost use Rattle.dp_desk.specs.Untold.{untold_tells_inputs};
+ghost use Rattle.std.specs.Prelude.{◌≡◌, ◌<◌, ◌≤◌, ℕ, length, IfOk, IsTrue, is_some};
+ghost use Rattle.dp_desk.specs.Host.{host_sight, host_tells_inputs, idle};
 
 use crate::{Desk, Failed, In, Out};
 use std::io::{Read, Write};
+use std::marker::Model;
 use std::rt::Files;
 use std::{fs, io};
 
@@ -22,9 +21,20 @@ pub struct HostDesk<'a, R: Files + Print> {
     faults_out: u64,
 }
 
+impl<'a, R: Files + Print> Model for HostDesk<'a, R> {
+    ghost use Rattle.std.specs.Prelude.{is_some};
+    ghost use Rattle.dp_desk.specs.Host.{Host};
+
+    ghost Value = { Host };
+
+    ghost view = { λ desk. record { model = is_some desk.model; log = is_some desk.log; first = is_some desk.first; second = is_some desk.second; faults_in = desk.faults_in; faults_out = desk.faults_out } };
+}
+
 impl<'a, R: Files + Print> HostDesk<'a, R> {
     /// A desk on which nothing was opened but the answer.
-    pub fn new(rt: &'a R) -> HostDesk<'a, R> {
+    pub fn new(rt: &'a R) -> HostDesk<'a, R>
+        ensures { result ≡ idle }
+    {
         HostDesk {
             rt,
             model: None,
@@ -38,7 +48,7 @@ impl<'a, R: Files + Print> HostDesk<'a, R> {
 }
 
 impl<R: Files + Print> Desk for HostDesk<'_, R> {
-    ghost sight = { λ desk. untold desk.model desk.log desk.first desk.second };
+    ghost sight = { host_sight };
 
     ghost faults_in = { λ desk. desk.faults_in };
 
@@ -46,7 +56,7 @@ impl<R: Files + Print> Desk for HostDesk<'_, R> {
 
     ghost answer_open = { λ desk. tt };
 
-    ghost tells_inputs = { λ desk. untold_tells_inputs desk.model desk.log desk.first desk.second };
+    ghost tells_inputs = { host_tells_inputs };
 
     fn open_in(&mut self, which: In, name: &str) -> Result<(), Failed> {
         match fs::open(self.rt, name) {
@@ -107,8 +117,8 @@ impl<R: Files + Print> Desk for HostDesk<'_, R> {
 
 // Reads from a file that was opened.
 fn read_from<F: Read>(file: &mut Option<F>, into: &mut [u8]) -> Result<usize, Failed>
-    requires { stream file.old ≡ Hidden }
-    ensures opened { stream file.new ≡ Hidden }
+    requires { IsTrue (is_some file.old) }
+    ensures opened { IsTrue (is_some file.new) }
     ensures bound { IfOk result (λ count. count ≤ length into.old) }
 {
     match file {
@@ -119,8 +129,8 @@ fn read_from<F: Read>(file: &mut Option<F>, into: &mut [u8]) -> Result<usize, Fa
 
 // Writes to a file that was opened.
 fn write_to<F: Write>(file: &mut Option<F>, bytes: &[u8]) -> Result<usize, Failed>
-    requires { stream file.old ≡ Hidden }
-    ensures opened { stream file.new ≡ Hidden }
+    requires { IsTrue (is_some file.old) }
+    ensures opened { IsTrue (is_some file.new) }
     ensures bound { IfOk result (λ count. count ≤ length bytes.now) }
     ensures some { IfOk result (λ count. 0 < length bytes.now → 0 < count) }
 {
