@@ -1,0 +1,16 @@
+// The outside of the program: two inputs and three outputs that are opened by name, read and written in pieces.
+#![tactic(auto)]
+
+mod desk;
+mod host_desk;
+mod memory_desk;
+mod storage;
+mod write;
+
+pub use desk::{Desk, Failed, In, Out};
+pub use host_desk::HostDesk;
+pub use memory_desk::MemoryDesk;
+pub use write::write_all;
+
+#[cfg(test)]
+mod tests;

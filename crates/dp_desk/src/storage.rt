@@ -1,0 +1,91 @@
+// What a desk in memory is made of: files by name, places in them, sheets that are written, and a count of calls.
+
+ghost use Rattle.std.specs.Prelude.{◌≡◌, ◌≤◌, ◌++◌, ◌==◌, Some, None, length, take, drop, min, option_map, position, bytes_eq, IfSome, IfNone};
+ghost use Rattle.std.specs.List.{list_any};
+ghost use Rattle.dp_desk.specs.Channel.{Shut};
+ghost use Rattle.dp_desk.specs.InMemory.{held, raised};
+ghost use Rattle.dp_desk.specs.Places.{bytes_at, left_bytes, left_at, channel_of, GrowsIfOpen};
+
+use crate::write::rest_of;
+use dp_base::{Name, Text};
+
+// How far a file was read: its place in the list, and the number of bytes that were taken.
+#[derive(Clone, Copy, Debug)]
+pub(crate) struct Place {
+    pub(crate) file: usize,
+    pub(crate) at: usize,
+}
+
+// What was written to an output: it was not opened, a write found no memory, or all that was written.
+#[derive(Debug, Drop)]
+pub(crate) enum Sheet {
+    Shut,
+    Lost,
+    Kept(Vec<u8>),
+}
+
+// Counts one more call, and says whether it is listed.
+pub(crate) fn count_call(calls: &mut u64, listed: &[u64]) -> bool
+    ensures count { calls.new ≡ raised calls.old }
+    ensures listed { result ≡ list_any (λ number. number == raised calls.old) listed.now }
+{
+    *calls = calls.saturating_add(1);
+    listed.contains(calls)
+}
+
+// The place of the first file with this name.
+pub(crate) fn find_file(files: &[(Name, Text)], name: &str) -> Option<usize>
+    ensures found { IfSome result (λ at. held files.now name.now ≡ Some (bytes_at files.now at)) }
+    ensures absent { IfNone result (held files.now name.now ≡ None) }
+{
+    place_of(files, name)
+}
+
+fn place_of(files: &[(Name, Text)], name: &str) -> Option<usize>
+    ensures { result ≡ position (λ file. bytes_eq file.0 name.now) files.now }
+{
+    files
+        .iter()
+        .position(|file| file.0.bytes() == name.as_bytes())
+}
+
+// Takes the next bytes of a file, as many as there are, as fit and as may be moved at once.
+pub(crate) fn take_from(
+    files: &[(Name, Text)],
+    place: &mut Option<Place>,
+    piece: usize,
+    into: &mut [u8],
+) -> usize
+    ensures moved { result ≡ min piece (min (length into.old) (length (left_bytes files.now place.old))) }
+    ensures bytes { into.new ≡ take result (left_bytes files.now place.old) ++ drop result into.old }
+    ensures left { left_at files.now place.new ≡ option_map (λ left. drop result left) (left_at files.now place.old) }
+{
+    let Some(open) = place else {
+        return 0;
+    };
+    let Some((_, text)) = files.get(open.file) else {
+        return 0;
+    };
+    let bytes = text.bytes();
+    if bytes.len() < open.at {
+        return 0;
+    }
+    let left = rest_of(bytes, open.at);
+    let count = piece.min(into.len()).min(left.len());
+    into[..count].copy_from_slice(&left[..count]);
+    open.at += count;
+    count
+}
+
+// Appends to a sheet that is kept. Where no memory is found it is kept no more.
+pub(crate) fn append(sheet: &mut Sheet, bytes: &[u8])
+    ensures { GrowsIfOpen (channel_of sheet.old) (channel_of sheet.new) bytes.now }
+{
+    let grown = match sheet {
+        Sheet::Kept(written) => written.extend_from_slice(bytes).is_ok(),
+        _ => true,
+    };
+    if !grown {
+        *sheet = Sheet::Lost;
+    }
+}
