@@ -1,0 +1,1 @@
+-- Sums of terms at states and assignments.
