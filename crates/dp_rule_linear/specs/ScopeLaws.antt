@@ -3,17 +3,8 @@ use Rattle.std.specs.Prelude.{◌≡◌, ℕ, suc, ◌+◌, ◌<◌, ◌≤◌, 
 use Rattle.std.proofs.Common.{refl, sym, ◌∙◌, ap, subst, inl, inr, arith}
 use Rattle.std.proofs.lemmas.Bool.Decides.{nat_tests}
 use Rattle.dp_base.specs.Lists.{Among, Each, Climbs}
+use Rattle.dp_base.proofs.Lists.{Each-among, Each-from_among}
 use Rattle.dp_rule_linear.specs.Scopes.{with_variable, in_order}
-
--- what holds of each item holds of one
-pub each_at : {A : Type 0} (P : A → Type 0) (x : A) (ys : List A) → Each P ys → Among x ys → P x
-each_at P x [] all here = absurd here
-each_at P x (y ∷ ys) all here = elim here [ inl e ↦ subst P (sym e) all.0 | inr later ↦ each_at P x ys all.1 later ]
-
--- what holds of whatever stands among the items holds of each
-pub each_by : {A : Type 0} (P : A → Type 0) (xs : List A) → ((x : A) → Among x xs → P x) → Each P xs
-each_by P [] f = tt
-each_by P (x ∷ xs) f = (f x (inl refl), each_by P xs (λ y here. f y (inr here)))
 
 -- x before y, and the tests that say so
 pub record IsBefore (x y : ℕ) : Type 0 where
@@ -90,8 +81,8 @@ pub climbs_with : (x : ℕ) (ys : List ℕ) → Climbs ys → Climbs (with_varia
 climbs_with x [] climbs = (tt, tt)
 climbs_with x (y ∷ ys) climbs =
     elim (order_of x y) [
-        inl before ↦ rw (with_variable-before x y ys before) ((before.less, each_by (λ z. x < z) ys (λ z here. let later : y < z = each_at (λ w. y < w) z ys climbs.0 here in let first : x < y = before.less in omega arith)), climbs)
-      | inr (inl after) ↦ rw (with_variable-after x y ys after) (each_by (λ z. y < z) (with_variable x ys) (λ z here. elim (among_with_out z x ys here) [ inl e ↦ subst (λ w. y < w) (sym e) after.less | inr h ↦ each_at (λ w. y < w) z ys climbs.0 h ]), climbs_with x ys climbs.1)
+        inl before ↦ rw (with_variable-before x y ys before) ((before.less, Each-from_among (λ z. x < z) ys (λ z here. let later : y < z = Each-among (λ w. y < w) ys climbs.0 z here in let first : x < y = before.less in omega arith)), climbs)
+      | inr (inl after) ↦ rw (with_variable-after x y ys after) (Each-from_among (λ z. y < z) (with_variable x ys) (λ z here. elim (among_with_out z x ys here) [ inl e ↦ subst (λ w. y < w) (sym e) after.less | inr h ↦ Each-among (λ w. y < w) ys climbs.0 z h ]), climbs_with x ys climbs.1)
       | inr (inr one) ↦ rw (with_variable-same x y ys one) climbs
     ]
 
@@ -101,7 +92,7 @@ climbs_in_order (x ∷ xs) = climbs_with x (in_order xs) (climbs_in_order xs)
 
 -- what holds of each of the scope holds of each variable that it was made of, and the other way
 pub each_in_order_out : (P : ℕ → Type 0) (xs : List ℕ) → Each P (in_order xs) → Each P xs
-each_in_order_out P xs all = each_by P xs (λ x here. each_at P x (in_order xs) all (among_in_order x xs here))
+each_in_order_out P xs all = Each-from_among P xs (λ x here. Each-among P (in_order xs) all x (among_in_order x xs here))
 
 -- variables that are in order stay as they are
 with_first : (x : ℕ) (ys : List ℕ) → Each (λ y. x < y) ys → with_variable x ys ≡ x ∷ ys
