@@ -54,8 +54,9 @@ Among-cut_meets d a v h = (among_cut_same d a v h).1
 -- a value of a cut is one of the state
 pub Among-cut_only : (d : Domains) (a : Atomic) (x : ℕ) (v : ℤ) → Among v (values (cut d a) x) → Among v (values d x)
 Among-cut_only d a x v h = elim (cases_eq x a.var) [
-    inl e ↦ subst (λ y. Among v (values d y)) (sym e) (among_cut_same d a v (subst (λ y. Among v (values (cut d a) y)) e h)).0
-  | inr n ↦ subst (λ ys. Among v ys) (values-cut_other d a x n) h ]
+  | inl e ↦ subst (λ y. Among v (values d y)) (sym e) (among_cut_same d a v (subst (λ y. Among v (values (cut d a) y)) e h)).0
+  | inr n ↦ subst (λ ys. Among v ys) (values-cut_other d a x n) h
+]
 
 among_cut_same_all : (d : Domains) (a : Atomic) (v : ℤ) → Among v (values d a.var) → meets a v ≡ true → Among v (values (cut d a) a.var)
 among_cut_same_all d a v h m = subst (λ ys. Among v ys) (sym (values-cut_same d a (within-from_value d a.var v h))) (Among-filter_all (meets a) (values d a.var) v h m)
@@ -63,8 +64,9 @@ among_cut_same_all d a v h m = subst (λ ys. Among v ys) (sym (values-cut_same d
 -- a value of the state that meets the atom, or of another variable, is one of the cut
 pub Among-cut_all : (d : Domains) (a : Atomic) (x : ℕ) (v : ℤ) → Among v (values d x) → (x ≡ a.var → meets a v ≡ true) → Among v (values (cut d a) x)
 Among-cut_all d a x v h m = elim (cases_eq x a.var) [
-    inl e ↦ subst (λ y. Among v (values (cut d a) y)) (sym e) (among_cut_same_all d a v (subst (λ y. Among v (values d y)) e h) (m e))
-  | inr n ↦ subst (λ ys. Among v ys) (sym (values-cut_other d a x n)) h ]
+  | inl e ↦ subst (λ y. Among v (values (cut d a) y)) (sym e) (among_cut_same_all d a v (subst (λ y. Among v (values d y)) e h) (m e))
+  | inr n ↦ subst (λ ys. Among v ys) (sym (values-cut_other d a x n)) h
+]
 
 -- ---- smaller states
 
@@ -115,9 +117,9 @@ same_values : (d e : Domains) → Each IsDomain d → Each IsDomain e → IsWith
 same_values d e p q f g k xs h =
     let i : k < length e = subst (λ n. k < n) g.count h in
     get_or_default d k xs [] h ∙ ascending-same (values d k) (values e k)
-        (Each-among IsDomain d p (values d k) (Among-get_or d k [] h)).ascending
-        (Each-among IsDomain e q (values e k) (Among-get_or e k [] i)).ascending
-        (λ v m. g.each k v m) (λ v m. f.each k v m)
+    (Each-among IsDomain d p (values d k) (Among-get_or d k [] h)).ascending
+    (Each-among IsDomain e q (values e k) (Among-get_or e k [] i)).ascending
+    (λ v m. g.each k v m) (λ v m. f.each k v m)
     ∙ sym (get_or_default e k xs [] i)
 
 -- two states of domains, each within the other, are equal
@@ -246,14 +248,15 @@ pub dead-cut : (d : Domains) (a : Atomic) → a.var < length d → entails d (ne
 dead-cut d a h e =
     dead-at (cut d a) a.var (subst (λ n. a.var < n) (sym (length-cut d a)) h)
     (nil-from_test (values (cut d a) a.var) (is_nil-none (values (cut d a) a.var) (λ v m.
-        both_ways (meets a v)
-        (not-from_meets a v (entails-at d (negated a) v e (Among-cut_only d a a.var v m)))
-        (Among-cut_meets d a v m))))
+    both_ways (meets a v)
+    (not-from_meets a v (entails-at d (negated a) v e (Among-cut_only d a a.var v m)))
+    (Among-cut_meets d a v m))))
 
 dead_cut_value : (d : Domains) (a : Atomic) (x : ℕ) (v : ℤ) → values (cut d a) x ≡ [] → Among v (values d x) → (x ≡ a.var) × (meets a v ≡ false)
 dead_cut_value d a x v e h = elim (cases_eq x a.var) [
-    inl k ↦ (k, false_from_ne_true (meets a v) (λ t. subst (λ ys. Among v ys) e (Among-cut_all d a x v h (λ _. t))))
-  | inr n ↦ absurd (subst (λ ys. Among v ys) (sym (values-cut_other d a x n) ∙ e) h) ]
+  | inl k ↦ (k, false_from_ne_true (meets a v) (λ t. subst (λ ys. Among v ys) e (Among-cut_all d a x v h (λ _. t))))
+  | inr n ↦ absurd (subst (λ ys. Among v ys) (sym (values-cut_other d a x n) ∙ e) h)
+]
 
 -- where a cut of a state that is not dead is dead, the state entails the negation
 pub entails-from_dead_cut : (d : Domains) (a : Atomic) → is_dead d ≡ false → is_dead (cut d a) ≡ true → entails d (negated a) ≡ true
@@ -263,7 +266,7 @@ entails-from_dead_cut d a f t =
     let m = alive-value d r.0 f h in
     let k = dead_cut_value d a r.0 m.0 r.2 m.1 in
     entails-from d (negated a) (λ v w.
-        meets-from_not a v (dead_cut_value d a r.0 v r.2 (subst (λ y. Among v (values d y)) (sym k.0) w)).1)
+    meets-from_not a v (dead_cut_value d a r.0 v r.2 (subst (λ y. Among v (values d y)) (sym k.0) w)).1)
 
 -- a state that is not dead does not entail an atom and its negation
 pub entails-apart : (d : Domains) (a : Atomic) → is_dead d ≡ false → a.var < length d → entails d a ≡ true → entails d (negated a) ≡ false
