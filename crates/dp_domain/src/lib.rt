@@ -11,3 +11,6 @@ pub use dom::Dom;
 pub use dp_base::{Assignment, Memory, Name, Text};
 pub use rule::Rule;
 pub use state::State;
+
+#[cfg(test)]
+mod tests;
