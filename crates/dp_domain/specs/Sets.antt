@@ -1,5 +1,5 @@
 -- Finite sets of integers, as their values in ascending order.
-use Rattle.std.specs.Prelude.{◌≡◌, ℕ, ◌^◌, Option, Some, None, Bool, if◌then◌else◌, List, [], ◌∷◌, ℤ, pos, neg_ℤ, ◌+ℤ◌, ◌≤ℤ◌, ◌<ℤ◌, int_le}
+use Rattle.std.specs.Prelude.{◌≡◌, ℕ, ◌^◌, Option, Some, None, Bool, if◌then◌else◌, List, [], ◌∷◌, ◌++◌, ℤ, pos, neg_ℤ, ◌+ℤ◌, ◌≤ℤ◌, ◌<ℤ◌, int_le}
 use Rattle.std.specs.Int.{int_min, int_max}
 use Rattle.dp_base.specs.Lists.{Among, Each}
 
@@ -21,6 +21,10 @@ pub record IsDomain (xs : List ℤ) : Type 0 where
 pub record Collects (xs : List ℤ) (P : ℤ → Type 0) : Type 0 where
   pub only : (v : ℤ) → Among v xs → P v
   pub all : (v : ℤ) → P v → Among v xs
+
+-- the values are followed by a domain of the numbers with the property, and by nothing else
+abbrev pub IsFollowed : List ℤ → List ℤ → (ℤ → Type 0) → Type 0
+IsFollowed before now P = (xs : List ℤ) × (now ≡ before ++ xs) × IsDomain xs × Collects xs P
 
 -- the number lies between the ends of the interval, ends included
 abbrev pub LiesBetween : ℤ × ℤ → ℤ → Type 0
@@ -63,3 +67,9 @@ with_value x (i ∷ is) = if is_next x i.0 then (x, i.1) ∷ is else (x, x) ∷ 
 abbrev pub intervals_of : List ℤ → List (ℤ × ℤ)
 intervals_of [] = []
 intervals_of (x ∷ xs) = with_value x (intervals_of xs)
+
+-- v goes to the end of the intervals of lesser values: it joins the last, or opens one
+abbrev pub with_later : List (ℤ × ℤ) → ℤ → List (ℤ × ℤ)
+with_later [] v = (v, v) ∷ []
+with_later (i ∷ []) v = if is_next i.1 v then (i.0, v) ∷ [] else i ∷ (v, v) ∷ []
+with_later (i ∷ j ∷ is) v = i ∷ with_later (j ∷ is) v

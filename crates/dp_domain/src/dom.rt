@@ -1,10 +1,10 @@
 // Finite sets of integers.
 
-ghost use Rattle.std.specs.Prelude.{◌≡◌, ◌≤ℤ◌, ◌↔◌, IfOk, IsTrue, not, filter};
+ghost use Rattle.std.specs.Prelude.{◌≡◌, ◌≤ℤ◌, ◌↔◌, IfOk, OnOk, IsTrue, not, filter};
 ghost use Rattle.std.specs.List.{list_all};
 ghost use Rattle.dp_base.specs.Lists.{Among, Each};
 ghost use Rattle.dp_domain.specs.Atoms.{meets};
-ghost use Rattle.dp_domain.specs.Sets.{Collects, IsDomain, IsSmall, LiesBetween, LiesInOne, greatest, intervals_of, least};
+ghost use Rattle.dp_domain.specs.Sets.{Collects, IsAscending, IsDomain, IsFollowed, IsSmall, LiesBetween, LiesInOne, greatest, intervals_of, least, with_later};
 ghost use Rattle.dp_domain.specs.States.{is_nil};
 
 use crate::{Atom, Memory};
@@ -37,9 +37,7 @@ impl Dom {
         ensures numbers { IfOk result (λ d. Collects d (LiesBetween (first, last))) }
     {
         let mut values = Vec::new(alloc);
-        for value in first..last + 1 {
-            values.push(value)?;
-        }
+        push_range(&mut values, first, last)?;
         Ok(Dom { values })
     }
 
@@ -50,14 +48,8 @@ impl Dom {
         ensures domain { IfOk result IsDomain }
         ensures numbers { IfOk result (λ d. Collects d (LiesInOne intervals.now)) }
     {
-        let mut values = Vec::new(alloc);
-        for (first, last) in intervals {
-            for value in *first..*last + 1 {
-                values.push(value)?;
-            }
-        }
-        values.sort()?;
-        values.dedup();
+        let unsorted = numbers(alloc, intervals)?;
+        let values = in_order(unsorted)?;
         Ok(Dom { values })
     }
 
@@ -97,7 +89,7 @@ impl Dom {
     pub fn has(&self, number: i64) -> bool
         ensures { IsTrue result ↔ Among number self.now }
     {
-        self.values.binary_search(&number).is_ok()
+        finds(self.values.as_slice(), number)
     }
 
     /// Whether each number of the set, as the value of the atom's variable, meets the atom.
@@ -112,9 +104,7 @@ impl Dom {
         ensures kept { self.new ≡ filter (meets atom) self.old }
         ensures changed { result ≡ not (list_all (meets atom) self.old) }
     {
-        let before = self.values.len();
-        self.values.retain(|value| atom.meets(*value));
-        self.values.len() < before
+        keep(&mut self.values, atom)
     }
 
     /// Its maximal intervals in ascending order, each as its first and its last number.
@@ -125,15 +115,82 @@ impl Dom {
     }
 }
 
+/// The numbers from the first to the last, after the values that are there.
+fn push_range(values: &mut Vec<i64>, first: i64, last: i64) -> Result<(), Memory>
+    requires first { IsSmall first }
+    requires last { IsSmall last }
+    ensures { OnOk result (IsFollowed values.old.items values.new.items (LiesBetween (first, last))) }
+{
+    for value in first..last + 1 {
+        values.push(value)?;
+    }
+    Ok(())
+}
+
+/// The numbers of the intervals, one interval after another.
+fn numbers(alloc: Global, intervals: &[(i64, i64)]) -> Result<Vec<i64>, Memory>
+    requires { Each (λ ends. IsSmall ends.0 × IsSmall ends.1) intervals.now }
+    ensures small { IfOk result (λ values. Each IsSmall values.items) }
+    ensures numbers { IfOk result (λ values. Collects values.items (LiesInOne intervals.now)) }
+{
+    let mut values = Vec::new(alloc);
+    for (first, last) in intervals {
+        push_range(&mut values, *first, *last)?;
+    }
+    Ok(values)
+}
+
+/// The same numbers in ascending order, each once.
+fn in_order(values: Vec<i64>) -> Result<Vec<i64>, Memory>
+    ensures ascending { IfOk result (λ sorted. IsAscending sorted.items) }
+    ensures numbers { IfOk result (λ sorted. Collects sorted.items (λ v. Among v values.items)) }
+{
+    let mut values = values;
+    values.sort()?;
+    values.dedup();
+    Ok(values)
+}
+
+fn finds(values: &[i64], number: i64) -> bool
+    requires { IsAscending values.now }
+    ensures { IsTrue result ↔ Among number values.now }
+{
+    values.binary_search(&number).is_ok()
+}
+
+/// Keeps the values that meet the atom, and answers whether others were there.
+fn keep(values: &mut Vec<i64>, atom: Atom) -> bool
+    ensures kept { values.new.items ≡ filter (meets atom) values.old.items }
+    ensures changed { result ≡ not (list_all (meets atom) values.old.items) }
+{
+    let before = values.len();
+    values.retain(|value| atom.meets(*value));
+    values.len() < before
+}
+
 fn intervals(alloc: Global, values: &[i64]) -> Result<Vec<(i64, i64)>, Memory>
+    requires { Each IsSmall values.now }
     ensures { IfOk result (λ intervals. intervals.items ≡ intervals_of values.now) }
 {
     let mut intervals = Vec::new(alloc);
     for value in values {
-        match intervals.last_mut() {
-            Some((_, last)) if *value <= *last + 1 => *last = *value,
-            _ => intervals.push((*value, *value))?,
-        }
+        extend(&mut intervals, *value)?;
     }
     Ok(intervals)
+}
+
+/// The value joins the last of the intervals of lesser values where it comes right after, and else opens one.
+fn extend(intervals: &mut Vec<(i64, i64)>, value: i64) -> Result<(), Memory>
+    requires { IsSmall value }
+    ensures { OnOk result (intervals.new.items ≡ with_later intervals.old.items value) }
+{
+    match intervals.pop() {
+        Some((first, last)) if value - 1 <= last => intervals.push((first, value))?,
+        Some(interval) => {
+            intervals.push(interval)?;
+            intervals.push((value, value))?;
+        }
+        None => intervals.push((value, value))?,
+    }
+    Ok(())
 }
