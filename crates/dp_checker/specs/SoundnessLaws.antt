@@ -175,7 +175,7 @@ conclusion_denies p steps denial denied e s solves met =
 bound_holds : (p : Posed) (steps : List (ℕ × List Atomic)) (o : Option Atomic) → Each (λ step. DeniesBelow p step.1) steps
     → concludes (cut_all p.initial (map negated (cons_some o []))) steps ≡ true → IfSome (option_map NoBetter o) (HoldsOf p)
 bound_holds p steps None denied e = tt
-bound_holds p steps (Some a) denied e s solves = elim (cases_Bool (meets a (s a.var))) [
+bound_holds p steps (Some a) denied e = λ s solves. elim (cases_Bool (meets a (s a.var))) [
     inl yes ↦ yes
   | inr fails ↦ absurd (conclusion_denies p steps (negated a ∷ []) denied e s solves (λ k. meets-from_not a (s a.var) fails, tt))
   ]
@@ -250,8 +250,8 @@ still_refused : (p : Posed) (refusal : StepRefusal) (lines : List (ℕ × Line))
 still_refused p refusal [] = refl
 still_refused p refusal (line ∷ lines) = still_refused p refusal lines
 
-known_same : (known next : Known) → Ok {T = Known} {E = StepRefusal} known ≡ Ok next → known ≡ next
-known_same known next e = cc
+known_same : (r : Result Known StepRefusal) (known next : Known) → r ≡ Ok known → r ≡ Ok next → known ≡ next
+known_same r known next p q = cc
 
 passed : (p : Posed) (number : ℕ) (known next later : Known) (lines : List (ℕ × Line)) (o : Option Why)
     → judge_all p (outcome number later o) lines ≡ Ok next → (o ≡ None) × (judge_all p (Ok later) lines ≡ Ok next)
@@ -259,7 +259,7 @@ passed p number known next later lines None e = (refl, e)
 passed p number known next later lines (Some why) e = err_is_ok _ next (sym (still_refused p _ lines) ∙ e)
 
 backed_lines : (p : Posed) → IsSoundlyPosed p → (lines : List (ℕ × Line)) (known next : Known) → IsBacked p known → judge_all p (Ok known) lines ≡ Ok next → IsBacked p next
-backed_lines p sound [] known next kept e = subst (λ (k : Known). IsBacked p k) (known_same known next e) kept
+backed_lines p sound [] known next kept e = subst (λ (k : Known). IsBacked p k) (known_same (Ok known) known next refl e) kept
 backed_lines p sound (line ∷ lines) known next kept e =
     let so : (first_refusal p known line.1 ≡ None) × (judge_all p (Ok (after p known line.1)) lines ≡ Ok next) =
         passed p line.0 known next (after p known line.1) lines (first_refusal p known line.1) e in
