@@ -46,13 +46,13 @@ same_states d e count f = same_lists d e count (λ k vs h.
 module _ (d : Domains) (denial : List Atomic) where
   -- a variable that is not an open atom's loses nothing
   kept_by_open : (a : Atomic) → Among a denial → entails d a ≡ false → (x : ℕ) (v : ℤ) → (a.var ≡ x → ⊥) → not (entails_all (cut d («is» x v)) denial) ≡ true
-  kept_by_open a here open x v apart =
-      not_from_false (entails_all (cut d («is» x v)) denial) (list_all-not (entails (cut d («is» x v))) denial a here (entails-is_other d x v a apart ∙ open))
+  kept_by_open a here lacks x v apart =
+      not_from_false (entails_all (cut d («is» x v)) denial) (list_all-not (entails (cut d («is» x v))) denial a here (entails-is_other d x v a apart ∙ lacks))
 
   -- with open atoms on two variables a hint takes nothing away
   pub cut_hint-passed : (a : Atomic) → Among a denial → entails d a ≡ false
       → list_all (λ b. eqb b.var a.var || entails d b) denial ≡ false → cut_hint d denial ≡ d
-  cut_hint-passed a here open rests =
+  cut_hint-passed a here lacks rests =
       let other : (b : Atomic) × Among b denial × ((eqb b.var a.var || entails d b) ≡ false) = list_all-fails (λ b. eqb b.var a.var || entails d b) denial rests in
       let parts : (eqb other.0.var a.var ≡ false) × (entails d other.0 ≡ false) = or_parts (eqb other.0.var a.var) (entails d other.0) other.2 in
       same_states (cut_hint d denial) d (length-keep_where (λ x v. not (entails_all (cut d («is» x v)) denial)) d) (λ x lt.
@@ -60,7 +60,7 @@ module _ (d : Domains) (denial : List Atomic) where
           ∙ filter-whole_list (λ v. not (entails_all (cut d («is» x v)) denial)) (values d x) (λ v h.
               elim (cases_eq a.var x) [
                 inl e ↦ kept_by_open other.0 other.1 parts.1 x v (λ k. both_ways (eqb other.0.var a.var) parts.0 (eq-eqb other.0.var a.var (k ∙ sym e)))
-              | inr n ↦ kept_by_open a here open x v n
+              | inr n ↦ kept_by_open a here lacks x v n
               ]))
 
   fails_none : (x : ℕ) (v : ℤ) → Among v (values d x) → entails_all (cut d («is» x v)) denial ≡ true → fails_one x denial v ≡ false
@@ -93,7 +93,7 @@ module _ (d : Domains) (denial : List Atomic) where
   -- with open atoms on one variable a hint takes away the values that meet all of its atoms there
   pub cut_hint-refuted : (a : Atomic) → Among a denial → entails d a ≡ false → a.var < length d
       → list_all (λ b. eqb b.var a.var || entails d b) denial ≡ true → cut_hint d denial ≡ refuted d a.var denial
-  cut_hint-refuted a here open within rests =
+  cut_hint-refuted a here lacks within rests =
       let keep : ℕ → ℤ → Bool = λ x v. not (entails_all (cut d («is» x v)) denial) in
       let left : List ℤ = filter (fails_one a.var denial) (values d a.var) in
       same_states (cut_hint d denial) (refuted d a.var denial) (length-keep_where keep d ∙ sym (length-set d a.var left)) (λ x lt.
@@ -103,6 +103,6 @@ module _ (d : Domains) (denial : List Atomic) where
                   (filter-agree (keep a.var) (fails_one a.var denial) (values d a.var) (λ v h. stays_where_fails a.var v h rests (entails_all (cut d («is» a.var v)) denial) refl)
                   ∙ sym (get_or-set_same d a.var left [] within))
           | inr n ↦
-              filter-whole_list (keep x) (values d x) (λ v h. kept_by_open a here open x v (λ k. n (sym k)))
+              filter-whole_list (keep x) (values d x) (λ v h. kept_by_open a here lacks x v (λ k. n (sym k)))
               ∙ sym (get_or-set_other d a.var x left [] n)
           ])

@@ -176,7 +176,7 @@ bound_holds : (p : Posed) (steps : List (ℕ × List Atomic)) (o : Option Atomic
     → concludes (cut_all p.initial (map negated (cons_some o []))) steps ≡ true → IfSome (option_map NoBetter o) (HoldsOf p)
 bound_holds p steps None denied e = tt
 bound_holds p steps (Some a) denied e = λ s solves. elim (cases_Bool (meets a (s a.var))) [
-    inl yes ↦ yes
+    inl met ↦ met
   | inr fails ↦ absurd (conclusion_denies p steps (negated a ∷ []) denied e s solves (λ k. meets-from_not a (s a.var) fails, tt))
   ]
 

@@ -88,8 +88,8 @@ impl<'p> Checker<'p> {
     /// conclusion is refused behind its last line.
     pub fn finish(self, lines: u64) -> Result<Verdict, StepRefusal>
         requires { lines ≤ 2 ^ 62 }
-        ensures verdict { result ≡ verdict self.progress lines }
-        ensures sound { IfOk result (IsRight self.problem) }
+        ensures verdict { result ≡ verdict self.entry.progress lines }
+        ensures sound { IfOk result (IsRight self.entry.problem) }
     {
         if let Some(refusal) = self.refusal {
             return Err(refusal);

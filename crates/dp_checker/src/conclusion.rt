@@ -12,7 +12,7 @@ ghost use Rattle.dp_lines.specs.declared.line.Claim.TheVariants.{Unsat, Bound};
 use crate::facts::{Denial, Facts};
 use crate::fault::Fault;
 use crate::literals::literal_atom;
-use crate::start::{entails_all, start_state};
+use crate::start::{entails_all, start_beyond};
 use crate::Why;
 use dp_domain::{Atom, Op, State, Verdict};
 use dp_lines::Claim;
@@ -63,7 +63,7 @@ fn judge_bound(problem: &Problem, facts: &Facts, literal: i64) -> Result<Verdict
     if !is_bound(goal, atom) {
         return Err(Fault::Refused(Why::WrongBound));
     }
-    let start = start_state(problem, [atom.negated()].as_slice())?;
+    let start = start_beyond(problem, atom)?;
     if !concludes(&start, &facts.steps) {
         return Err(Fault::Refused(Why::NotConcluded));
     }

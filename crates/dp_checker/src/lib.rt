@@ -14,3 +14,6 @@ mod start;
 pub use checker::Checker;
 pub use fault::CheckFault;
 pub use refusal::{StepRefusal, Why};
+
+#[cfg(test)]
+mod tests;
