@@ -22,10 +22,10 @@ use Rattle.dp_parts.specs.Posed.{IsSoundPart, IsSoundlyPosed, Labelled, Passes, 
 use Rattle.dp_base.specs.Names.{named}
 use Rattle.dp_checker.specs.declared.refusal.StepRefusal.{StepRefusal}
 use Rattle.dp_checker.specs.declared.refusal.Why.{Why}
-use Rattle.dp_checker.specs.declared.refusal.Why.TheVariants.{AfterConclusion, NoClash, NotConcluded, NotImplied}
-use Rattle.dp_checker.specs.Judged.{after, against, concluded, conclusion_refusal, first_refusal, grounds, inference_denial, inference_refusal, initial_domain, judge, judge_all, line_refusal, nogood_refusal, or_else, outcome, parts_of, unless, with_atom, with_step}
+use Rattle.dp_checker.specs.declared.refusal.Why.TheVariants.{AfterConclusion, NoClash, NoGoal, NotConcluded, NotImplied, StepTwice, UnknownAtom, UnknownConstraint, UnknownStep, WrongBound, WrongLabel}
+use Rattle.dp_checker.specs.Judged.{after, against, concluded, conclusion_refusal, first_refusal, grounds, has_goal, inference_denial, inference_refusal, initial_domain, is_bound, is_constraint, is_fitting, judge, judge_all, line_refusal, naming, nogood_refusal, or_else, outcome, parts_of, unless, with_atom, with_last, with_step}
 use Rattle.dp_checker.specs.Kept.{DeniesBelow, IsBacked, MeetsBelow}
-use Rattle.dp_checker.specs.Known.{Known, cons_some, denials, found, literal_atom, literal_atoms, nothing}
+use Rattle.dp_checker.specs.Known.{Known, cons_some, denials, first_undefined, first_unknown, found, literal_atom, literal_atoms, nothing}
 use Rattle.dp_checker.specs.Rules.{concludes, cut_hint, implies, «is», is_labelled, keep_where, proves}
 use Rattle.dp_checker.specs.Soundness.{Denies, HoldsOf, IsSupported, Meets}
 
@@ -218,7 +218,8 @@ backed_claim p known (Bound literal) kept e = record {
   steps = kept.steps;
   conclusion = bound_holds p known.steps (literal_atom known.atoms literal) kept.steps
       (holds_where_passed (concludes (cut_all p.initial (against known.atoms (Some literal))) known.steps) NotConcluded
-          (second_passes _ _ (second_passes _ _ (second_passes _ _ e))));
+          (second_passes (unless (list_all (is_bound p.goal) (literal_atoms known.atoms (literal ∷ []))) WrongBound) _
+              (second_passes (unless (has_goal p.goal) NoGoal) _ (second_passes (naming UnknownAtom (first_undefined known.atoms (literal ∷ []))) _ e))));
 }
 
 backed_line : (p : Posed) → IsSoundlyPosed p → (known : Known) → IsBacked p known → (line : Line) → line_refusal p known line ≡ None → IsBacked p (after p known line)
@@ -227,12 +228,14 @@ backed_line p sound known kept (Inference id premises consequent constraint labe
     backed_step p known id (inference_denial known.atoms premises consequent) kept
         (inference_denies p sound constraint label (inference_denial known.atoms premises consequent)
             (holds_where_passed (implies (cut_all p.initial (inference_denial known.atoms premises consequent)) (grounds p constraint label) label) NotImplied
-                (second_passes _ _ (second_passes _ _ (second_passes _ _ (second_passes _ _ e))))))
+                (second_passes (unless (is_fitting p constraint label) WrongLabel) _ (second_passes (unless (is_constraint p constraint) UnknownConstraint) _
+                    (second_passes (unless (is_none (found id known.steps)) StepTwice) _ (second_passes (naming UnknownAtom (first_undefined known.atoms (with_last premises consequent))) _ e))))))
 backed_line p sound known kept (Nogood id atoms hints) e =
     backed_step p known id (literal_atoms known.atoms atoms) kept
         (nogood_denies p known.steps hints (literal_atoms known.atoms atoms) kept.steps
             (holds_where_passed (proves (cut_all p.initial (literal_atoms known.atoms atoms)) (denials known.steps hints)) NoClash
-                (second_passes _ _ (second_passes _ _ (second_passes _ _ e)))))
+                (second_passes (naming UnknownStep (first_unknown known.steps hints)) _
+                    (second_passes (unless (is_none (found id known.steps)) StepTwice) _ (second_passes (naming UnknownAtom (first_undefined known.atoms atoms)) _ e)))))
 backed_line p sound known kept (Delete id) e = kept
 backed_line p sound known kept (Conclude claim) e = backed_claim p known claim kept e
 

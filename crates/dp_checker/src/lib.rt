@@ -15,5 +15,5 @@ pub use checker::Checker;
 pub use fault::CheckFault;
 pub use refusal::{StepRefusal, Why};
 
-#[cfg(test)]
-mod tests;
+
+

@@ -21,9 +21,9 @@ pub fn start_state(problem: &Problem, atoms: &[Atom]) -> Result<State, Memory>
 }
 
 /// The initial state of the problem where the atom fails.
-pub fn start_beyond(problem: &Problem, atom: Atom) -> Result<State, Memory>
-    requires { atom.var < length problem.now.initial }
-    ensures start { IfOk result (λ state. state ≡ cut problem.now.initial (negated atom)) }
+pub fn start_beyond(problem: &Problem, atom: &Atom) -> Result<State, Memory>
+    requires { atom.now.var < length problem.now.initial }
+    ensures start { IfOk result (λ state. state ≡ cut problem.now.initial (negated atom.now)) }
     ensures problem { OnOk result (IsProblem problem.now) }
 {
     let mut state = problem.initial().copy()?;

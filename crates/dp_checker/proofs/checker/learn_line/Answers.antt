@@ -1,0 +1,24 @@
+use Rattle.std.proofs.Common.{◌≡◌, ℕ, Option, Some, List, [], ◌∷◌, ◌++◌, ℤ, sym, ◌∙◌, ap}
+use Rattle.dp_base.specs.Names.{named}
+use Rattle.dp_domain.specs.Atoms.{Atomic}
+use Rattle.dp_domain.specs.declared.atom.Op.{Op}
+use Rattle.dp_lines.specs.declared.line.Line.{Line}
+use Rattle.dp_lines.specs.declared.line.Line.TheVariants.{Atom}
+use Rattle.dp_parts.specs.Problems.{Csp, posed}
+use Rattle.dp_checker.specs.Answers.{known_of}
+use Rattle.dp_checker.specs.Judged.{after, with_atom}
+use Rattle.dp_checker.specs.Known.{Known}
+use Rattle.dp_checker.proofs.checker.learn_line.Goals as goal
+
+-- an atom's line makes the atom of its name's variable known
+atom_known : (p : Csp) (known : Known) (atoms : List (ℕ × Atomic)) (line : Line) (id : ℕ) (name : List ℕ) (op : Op) (value : ℤ) (atom : Atomic)
+    → line ≡ Atom id name op value → atom ≡ record { var = atom.var; op = op; value = value } → named p.names name ≡ Some atom.var
+    → atoms ≡ known.atoms ++ (id, atom) ∷ [] → record known { atoms = atoms } ≡ after (posed p) known line
+atom_known p known atoms line id name op value atom is made var added =
+    ap (λ (es : List (ℕ × Atomic)). record known { atoms = es }) (added ∙ ap (λ (a : Atomic). known.atoms ++ (id, a) ∷ []) made)
+    ∙ sym (ap (λ (l : Line). after (posed p) known l) is ∙ ap (λ (o : Option ℕ). with_atom known id op value o) var)
+
+pub returns-in_ok-add_atom-in-Atom-clause-known : goal.returns-in_ok-add_atom-in-Atom-clause-known
+returns-in_ok-add_atom-in-Atom-clause-known c =
+    atom_known c.args.problem.now (known_of c.args.facts.now) c.add_atom.new.atoms.entries c.args.line.now _ _ _ _ c.in_ok-atom-in-Atom.atom
+        c.in-Atom.is c.in_ok-atom-in-Atom.ensures.atom.0 c.in_ok-atom-in-Atom.ensures.atom.1 c.in_ok-add_atom-in-Atom.ensures.added
