@@ -77,10 +77,10 @@ steps_after : (p : Csp) (known : Known) → IsKept p known → (line : Line) →
 steps_after p known kept (Atom id name op value) = steps_with (length p.initial) known id op value (named p.names name) kept.steps
 steps_after p known kept (Inference id premises consequent constraint label) =
     Each-append (λ (entry : ℕ × List Atomic). AreBelow (length p.initial) entry.1) known.steps ((id, inference_denial known.atoms premises consequent) ∷ []) kept.steps
-        (inference_below (length p.initial) known.atoms kept.atoms premises consequent, tt)
+    (inference_below (length p.initial) known.atoms kept.atoms premises consequent, tt)
 steps_after p known kept (Nogood id atoms hints) =
     Each-append (λ (entry : ℕ × List Atomic). AreBelow (length p.initial) entry.1) known.steps ((id, literal_atoms known.atoms atoms) ∷ []) kept.steps
-        (literals_below (length p.initial) known.atoms kept.atoms atoms, tt)
+    (literals_below (length p.initial) known.atoms kept.atoms atoms, tt)
 steps_after p known kept (Delete id) = kept.steps
 steps_after p known kept (Conclude claim) = kept.steps
 

@@ -66,7 +66,7 @@ pub turn_refuted : (d e : Domains) (denial : List Atomic) (a : Atomic) (x y : �
 turn_refuted d e denial a x y alive some here lacks within p rests q f hints =
     or_passed (is_dead d) (entails_all d denial) (proves (cut_hint d denial) hints) alive some
     ∙ ap (λ (s : Domains). proves s hints) (cut_hint-refuted d denial a here lacks within (subst (λ (z : ℕ). list_all (λ b. eqb b.var z || entails d b) denial ≡ true) p rests)
-        ∙ sym (f ∙ ap (λ (z : ℕ). refuted d z denial) q))
+    ∙ sym (f ∙ ap (λ (z : ℕ). refuted d z denial) q))
 
 -- one with open atoms on several passes
 pub turn_passed : (d : Domains) (denial : List Atomic) (a : Atomic) (x : ℕ) → is_dead d ≡ false → entails_all d denial ≡ false

@@ -9,11 +9,11 @@ ghost use Rattle.dp_checker.specs.Kept.{AreBelow, IsKept};
 ghost use Rattle.dp_checker.specs.Rules.{concludes};
 ghost use Rattle.dp_lines.specs.declared.line.Claim.TheVariants.{Unsat, Bound};
 
+use crate::Why;
 use crate::facts::{Denial, Facts};
 use crate::fault::Fault;
 use crate::literals::literal_atom;
 use crate::start::{entails_all, start_beyond};
-use crate::Why;
 use dp_domain::{Atom, Op, State, Verdict};
 use dp_lines::Claim;
 use dp_parts::{Goal, Problem};

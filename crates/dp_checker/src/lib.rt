@@ -14,6 +14,3 @@ mod start;
 pub use checker::Checker;
 pub use fault::CheckFault;
 pub use refusal::{StepRefusal, Why};
-
-
-

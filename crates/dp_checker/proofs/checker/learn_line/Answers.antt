@@ -36,7 +36,7 @@ value_named line id name op value is allowed = (subst (λ (l : Line). IsAllowed 
 pub returns-in_ok-add_atom-in-Atom-clause-known : goal.returns-in_ok-add_atom-in-Atom-clause-known
 returns-in_ok-add_atom-in-Atom-clause-known c =
     atom_known c.args.problem.now (known_of c.args.facts.now) c.add_atom.new.atoms.entries c.args.line.now _ _ _ _ c.in_ok-atom-in-Atom.atom
-        c.in-Atom.is
-        (c.in_ok-atom-in-Atom.ensures.atom.0 ∙ ap (λ (z : ℤ). record { var = c.in_ok-atom-in-Atom.atom.var; op = c.in-Atom.op; value = z })
-            (nameable_read c.in-Atom.op c.in-Atom.value (value_named c.args.line.now _ _ _ _ c.in-Atom.is c.requires.allowed)))
-        c.in_ok-atom-in-Atom.ensures.atom.1 c.in_ok-add_atom-in-Atom.ensures.added
+    c.in-Atom.is
+    (c.in_ok-atom-in-Atom.ensures.atom.0 ∙ ap (λ (z : ℤ). record { var = c.in_ok-atom-in-Atom.atom.var; op = c.in-Atom.op; value = z })
+    (nameable_read c.in-Atom.op c.in-Atom.value (value_named c.args.line.now _ _ _ _ c.in-Atom.is c.requires.allowed)))
+    c.in_ok-atom-in-Atom.ensures.atom.1 c.in_ok-add_atom-in-Atom.ensures.added

@@ -12,4 +12,4 @@ pub loop-denial-init : goal.loop-denial-init
 loop-denial-init c =
     let all : c.into_iter-denial-iterator.result ≡ values_of c.args.steps.now.entries = search rules in
     subst (λ (vs : List (List Atomic)). Each (AreBelow (length c.args.start.now)) vs × (list_any (entails_all c.args.start.now) vs ≡ list_any (λ step. entails_all c.args.start.now step.1) c.args.steps.now.entries)) (sym all)
-        (each_value (AreBelow (length c.args.start.now)) c.args.steps.now.entries c.requires, any_value (entails_all c.args.start.now) c.args.steps.now.entries)
+    (each_value (AreBelow (length c.args.start.now)) c.args.steps.now.entries c.requires, any_value (entails_all c.args.start.now) c.args.steps.now.entries)

@@ -9,7 +9,7 @@ use Rattle.dp_checker.proofs.inference.judge_inference.Goals as goal
 pub start_state-requires : goal.start_state-requires
 start_state-requires c =
     subst (λ (atoms : List Atomic). AreBelow (length c.args.problem.now.initial) atoms) (sym (c.as_slice.ensures.value ∙ c.in_ok-denial.ensures))
-        (inference_below (length c.args.problem.now.initial) c.args.facts.now.atoms.entries c.requires.atoms c.args.premises.now c.args.consequent)
+    (inference_below (length c.args.problem.now.initial) c.args.facts.now.atoms.entries c.requires.atoms c.args.premises.now c.args.consequent)
 
 pub holds-requires : goal.holds-requires
 holds-requires c = ap (λ (d : Domains). length d) c.in_ok-start.ensures.start ∙ length-cut_all c.args.problem.now.initial c.as_slice.result.now

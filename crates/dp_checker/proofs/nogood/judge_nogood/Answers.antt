@@ -10,9 +10,9 @@ use Rattle.dp_checker.proofs.nogood.judge_nogood.Goals as goal
 pub start_state-requires : goal.start_state-requires
 start_state-requires c =
     subst (λ (atoms : List Atomic). AreBelow (length c.args.problem.now.initial) atoms) (sym (c.as_slice.ensures.value ∙ c.in_ok-denial.ensures))
-        (literals_below (length c.args.problem.now.initial) c.args.facts.now.atoms.entries c.requires.atoms c.args.atoms.now)
+    (literals_below (length c.args.problem.now.initial) c.args.facts.now.atoms.entries c.requires.atoms c.args.atoms.now)
 
 pub prove-requires : goal.prove-requires
 prove-requires c =
     each_below _ (length c.args.problem.now.initial) c.args.facts.now.steps.entries
-        (ap (λ (d : Domains). length d) c.in_ok-start.ensures.start ∙ length-cut_all c.args.problem.now.initial c.as_slice.result.now) c.requires.steps
+    (ap (λ (d : Domains). length d) c.in_ok-start.ensures.start ∙ length-cut_all c.args.problem.now.initial c.as_slice.result.now) c.requires.steps

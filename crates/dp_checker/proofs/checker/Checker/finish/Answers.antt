@@ -10,5 +10,5 @@ use Rattle.dp_checker.proofs.checker.Checker.finish.Goals as goal
 pub returns-clause-sound : goal.returns-clause-sound
 returns-clause-sound c =
     subst (λ (k : Checking). IfOk c.verdict_of.result (IsRight k.problem)) c.self.view_is
-        (subst (λ (r : Result Verdict StepRefusal). IfOk r (IsRight c.self.inside.problem.now)) (sym c.verdict_of.ensures)
-            (right_conclusion c.self.inside.problem.now c.args.lines c.self.inside.facts.conclusion c.self.invariant.backed.conclusion))
+    (subst (λ (r : Result Verdict StepRefusal). IfOk r (IsRight c.self.inside.problem.now)) (sym c.verdict_of.ensures)
+    (right_conclusion c.self.inside.problem.now c.args.lines c.self.inside.facts.conclusion c.self.invariant.backed.conclusion))

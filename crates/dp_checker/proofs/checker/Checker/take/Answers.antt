@@ -8,4 +8,4 @@ use Rattle.dp_checker.proofs.checker.Checker.take.Goals as goal
 pub invariant_of-self : goal.invariant_of-self
 invariant_of-self c =
     subst (λ (k : Known). IsKept c.self.inside.problem.now k) (sym c.in-Ok.ensures.known)
-        (kept_after c.self.inside.problem.now c.in-Ok.ensures.problem (known_of c.self.inside.facts) c.self.invariant c.args.line.now c.in-Ok.ensures.accepted)
+    (kept_after c.self.inside.problem.now c.in-Ok.ensures.problem (known_of c.self.inside.facts) c.self.invariant c.args.line.now c.in-Ok.ensures.accepted)
