@@ -4,7 +4,7 @@ ghost use Rattle.std.specs.Prelude.{◌≡◌, ◌≤ℤ◌, ◌↔◌, IfOk, On
 ghost use Rattle.std.specs.List.{list_all};
 ghost use Rattle.dp_base.specs.Lists.{Among, Each};
 ghost use Rattle.dp_domain.specs.Atoms.{meets};
-ghost use Rattle.dp_domain.specs.Sets.{Collects, IsAscending, IsDomain, IsFollowed, IsSmall, LiesBetween, LiesInOne, greatest, intervals_of, least, with_later};
+ghost use Rattle.dp_domain.specs.Sets.{AreApart, Collects, IsAscending, IsDomain, IsFollowed, IsSmall, LiesBetween, LiesInOne, greatest, intervals_of, least, with_later};
 ghost use Rattle.dp_domain.specs.States.{is_nil};
 
 use crate::{Atom, Memory};
@@ -109,7 +109,9 @@ impl Dom {
 
     /// Its maximal intervals in ascending order, each as its first and its last number.
     pub fn intervals(&self, alloc: Global) -> Result<Vec<(i64, i64)>, Memory>
-        ensures { IfOk result (λ intervals. intervals.items ≡ intervals_of self.now) }
+        ensures intervals { IfOk result (λ intervals. intervals.items ≡ intervals_of self.now) }
+        ensures numbers { IfOk result (λ intervals. Collects self.now (LiesInOne intervals.items)) }
+        ensures apart { IfOk result (λ intervals. AreApart intervals.items) }
     {
         intervals(alloc, self.values.as_slice())
     }
