@@ -153,6 +153,7 @@ fn in_order(values: Vec<i64>) -> Result<Vec<i64>, Memory>
     Ok(values)
 }
 
+/// Whether the number is among ascending values.
 fn finds(values: &[i64], number: i64) -> bool
     requires { IsAscending values.now }
     ensures { IsTrue result ↔ Among number values.now }
