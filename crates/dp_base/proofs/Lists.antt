@@ -1,7 +1,7 @@
 -- Lemmas on membership (`Among`), on facts of each item (`Each`), and on filters and tests of whole lists.
-use Rattle.std.proofs.Common.{◌≡◌, ℕ, zero, suc, ◌<◌, ◌≤◌, Bool, true, false, cond, not, ltb, ◌&&◌, ◌||◌, ◌⊎◌, List, [], ◌∷◌, ◌++◌, length, get_or, set, refl, sym, ◌∙◌, ap, subst, inl, inr, arith}
+use Rattle.std.proofs.Common.{◌≡◌, ℕ, zero, suc, ◌<◌, ◌≤◌, Bool, true, false, cond, ◌&&◌, ◌⊎◌, List, [], ◌∷◌, ◌++◌, length, get_or, set, refl, sym, ◌∙◌, ap, subst, inl, inr, arith}
 use Rattle.std.specs.List.{filter, list_any, list_all, All, Contains}
-use Rattle.std.proofs.lemmas.Bool.{false≢true, and_parts, and_from, and_cases, and_left, and_right, or_cases, or_parts, or_from, or_left, or_right, not-true, not-false}
+use Rattle.std.proofs.lemmas.Bool.{false≢true, and_parts, and_from, and_cases, and_left, and_right, or_cases, or_parts, or_from, or_left, or_right}
 use Rattle.std.proofs.lemmas.List.Elements.{All-head, All-tail}
 use Rattle.dp_base.specs.Lists.{Among, Each}
 
