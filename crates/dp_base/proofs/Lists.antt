@@ -1,7 +1,7 @@
 -- Lemmas on membership (`Among`), on facts of each item (`Each`), and on filters and tests of whole lists.
-use Rattle.std.proofs.Common.{◌≡◌, ℕ, zero, suc, ◌<◌, ◌≤◌, Bool, true, false, cond, not, ltb, ◌&&◌, ◌||◌, ◌⊎◌, List, [], ◌∷◌, ◌++◌, length, get_or, refl, sym, ◌∙◌, ap, subst, inl, inr, arith}
+use Rattle.std.proofs.Common.{◌≡◌, ℕ, zero, suc, ◌<◌, ◌≤◌, Bool, true, false, cond, ◌&&◌, ◌⊎◌, List, [], ◌∷◌, ◌++◌, length, get_or, set, refl, sym, ◌∙◌, ap, subst, inl, inr, arith}
 use Rattle.std.specs.List.{filter, list_any, list_all, All, Contains}
-use Rattle.std.proofs.lemmas.Bool.{false≢true, and_parts, and_from, and_cases, and_left, and_right, or_cases, or_parts, or_from, or_left, or_right, not-true, not-false}
+use Rattle.std.proofs.lemmas.Bool.{false≢true, and_parts, and_from, and_cases, and_left, and_right, or_cases, or_parts, or_from, or_left, or_right}
 use Rattle.std.proofs.lemmas.List.Elements.{All-head, All-tail}
 use Rattle.dp_base.specs.Lists.{Among, Each}
 
@@ -170,3 +170,19 @@ filter_filter_step p q x false false ys zs e f g = g
 pub filter-filter : {A : Type 0} (p q : A → Bool) (xs : List A) → filter p (filter q xs) ≡ filter q (filter p xs)
 filter-filter p q [] = refl
 filter-filter p q (x ∷ xs) = filter_filter_step p q x (p x) (q x) (filter q xs) (filter p xs) refl refl (filter-filter p q xs)
+
+length_filter_step : {A : Type 0} (b : Bool) (x : A) (ys xs : List A) (t : Bool) → length ys ≤ length xs → (t ≡ true → length ys ≡ length xs) → (t ≡ false → length ys < length xs)
+    → (length (cond b (x ∷ ys) ys) ≤ length (x ∷ xs)) × ((b && t) ≡ true → length (cond b (x ∷ ys) ys) ≡ length (x ∷ xs)) × ((b && t) ≡ false → length (cond b (x ∷ ys) ys) < length (x ∷ xs))
+length_filter_step true x ys xs t a f g = (omega arith, λ e. ap suc (f e), λ e. omega (arith, g e))
+length_filter_step false x ys xs t a f g = (omega arith, λ e. absurd (false≢true e), λ e. omega arith)
+
+-- a filter keeps no more than there is, all where each item passes, and less where not
+pub length-filter_cases : {A : Type 0} (p : A → Bool) (xs : List A) → (length (filter p xs) ≤ length xs) × (list_all p xs ≡ true → length (filter p xs) ≡ length xs) × (list_all p xs ≡ false → length (filter p xs) < length xs)
+length-filter_cases p [] = (omega arith, λ _. refl, λ e. absurd (false≢true (sym e)))
+length-filter_cases p (x ∷ xs) = let r = length-filter_cases p xs in length_filter_step (p x) x (filter p xs) xs (list_all p xs) r.0 r.1 r.2
+
+-- a fact of each item and of what is written at a place is one of each item afterwards
+pub Each-set : {A : Type 0} (P : A → Type 0) (xs : List A) (i : ℕ) (y : A) → Each P xs → P y → Each P (set xs i y)
+Each-set P [] i y e h = tt
+Each-set P (x ∷ xs) zero y e h = (h, e.1)
+Each-set P (x ∷ xs) (suc i) y e h = (e.0, Each-set P xs i y e.1 h)

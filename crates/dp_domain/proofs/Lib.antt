@@ -1,5 +1,6 @@
 pub mod AtomLaws
 pub mod BoundLaws
+pub mod IntervalLaws
 pub mod ScopeLaws
 pub mod SetLaws
 pub mod SetSteps

@@ -1,5 +1,5 @@
 -- Steps of the code of domains: a run of numbers, sorting, searching, filtering, intervals.
-use Rattle.std.proofs.Common.{◌≡◌, ℕ, zero, suc, ◌+◌, ◌-◌, ◌<◌, ◌≤◌, Bool, true, false, cond, not, ◌&&◌, nat_lt, ltb, ◌⊎◌, List, [], ◌∷◌, ◌++◌, length, get_or, take, ℤ, pos, ◌+ℤ◌, ◌-ℤ◌, ◌≤ℤ◌, ◌<ℤ◌, int_le, IsTrue, IsPermutation, Contains, Result, Ok, Err, Option, Some, option_to_list, refl, sym, ◌∙◌, ap, subst, inl, inr, arith, ⊎_elim}
+use Rattle.std.proofs.Common.{◌≡◌, ℕ, zero, suc, ◌+◌, ◌<◌, ◌≤◌, Bool, true, false, cond, not, nat_lt, ◌⊎◌, List, [], ◌∷◌, ◌++◌, length, get_or, take, ℤ, pos, ◌+ℤ◌, ◌-ℤ◌, ◌≤ℤ◌, ◌<ℤ◌, int_le, IsTrue, IsPermutation, Result, Ok, Err, Option, Some, option_to_list, refl, sym, ◌∙◌, ap, subst, inl, inr, arith}
 use Rattle.std.specs.declared.cmp.Ordering.{Ordering}
 use Rattle.std.specs.declared.cmp.Ordering.TheVariants.{Less, Equal, Greater}
 use Rattle.std.specs.Ordering.{MatchOrdering, int_cmp, int_eq, is_lt, eq_by_cmp}
@@ -9,13 +9,13 @@ use Rattle.std.specs.List.{filter, list_all, dedup, AllByRecursion}
 use Rattle.std.specs.List.Retain.{IsFiltered, DiffersFromLast}
 use Rattle.std.specs.List.Sorted.{IsSorted, IsSortedBy, IsStrictlySortedBy, IsBinarySearchResult, IsSearchInRange}
 use Rattle.std.proofs.lemmas.Int.{ints}
-use Rattle.std.proofs.lemmas.Bool.{cases_Bool, cases_lt, false≢true, le-ltb, lt-ltb, ltb-true, ltb-false}
-use Rattle.std.proofs.lemmas.List.{append-nil, append_assoc, get_or_default, take_more}
+use Rattle.std.proofs.lemmas.Bool.{cases_Bool, cases_lt, false≢true, le-ltb, lt-ltb}
+use Rattle.std.proofs.lemmas.List.{append-nil, append_assoc, take_more}
 use Rattle.std.proofs.lemmas.List.Filters.{dedup_is}
 use Rattle.std.proofs.lemmas.List.Kept.{Contains-dedup, Contains-from_dedup, IsStrictlySortedBy-dedup}
 use Rattle.std.proofs.lemmas.List.Sorted.{Contains-permutation, IsPermutation-sym, searchable_from_sorted}
 use Rattle.dp_base.specs.Lists.{Among, Each}
-use Rattle.dp_base.proofs.Lists.{Among-append_left, Among-append_right, Among-append_cases, Among-get_or, Among-from_contains, Contains-from_among, Each-among, Each-append, Each-from_among, Each-get_or}
+use Rattle.dp_base.proofs.Lists.{length-filter_cases, Among-append_left, Among-append_right, Among-append_cases, Among-get_or, Among-from_contains, Contains-from_among, Each-among, Each-append, Each-from_among, Each-get_or}
 use Rattle.dp_domain.specs.Sets.{IsAscending, IsSmall, IsDomain, Collects, IsFollowed, LiesBetween, LiesInOne, is_next, with_value, with_later, intervals_of}
 use Rattle.dp_domain.proofs.AtomLaws.{test-from_le, test-from_lt, order_cases}
 use Rattle.dp_domain.proofs.SetLaws.{IsAscending-push}
@@ -83,18 +83,9 @@ Runs-all before now first last next first' last' e f h r =
 
 -- ---- filtering
 
-filter_step : (b : Bool) (x : ℤ) (ys xs : List ℤ) (t : Bool) → length ys ≤ length xs → (t ≡ true → length ys ≡ length xs) → (t ≡ false → length ys < length xs)
-    → (length (cond b (x ∷ ys) ys) ≤ length (x ∷ xs)) × ((b && t) ≡ true → length (cond b (x ∷ ys) ys) ≡ length (x ∷ xs)) × ((b && t) ≡ false → length (cond b (x ∷ ys) ys) < length (x ∷ xs))
-filter_step true x ys xs t a f g = (omega arith, λ e. ap suc (f e), λ e. omega (arith, g e))
-filter_step false x ys xs t a f g = (omega arith, λ e. absurd (false≢true e), λ e. omega arith)
-
-length_filter_step : (p : ℤ → Bool) (xs : List ℤ) → (length (filter p xs) ≤ length xs) × (list_all p xs ≡ true → length (filter p xs) ≡ length xs) × (list_all p xs ≡ false → length (filter p xs) < length xs)
-length_filter_step p [] = (omega arith, λ _. refl, λ e. absurd (false≢true (sym e)))
-length_filter_step p (x ∷ xs) = let r = length_filter_step p xs in filter_step (p x) x (filter p xs) xs (list_all p xs) r.0 r.1 r.2
-
 pub shorter : (p : ℤ → Bool) (xs ys : List ℤ) (n m : ℕ) → ys ≡ filter p xs → n ≡ length ys → m ≡ length xs → nat_lt n m ≡ not (list_all p xs)
 shorter p xs ys n m e f g =
-    let r = length_filter_step p xs in
+    let r = length-filter_cases p xs in
     let k : n ≡ length (filter p xs) = f ∙ ap length e in
     elim (cases_Bool (list_all p xs)) [
       | inl t ↦ le-ltb n m (omega (arith, r.1 t)) ∙ sym (ap not t)

@@ -1,19 +1,16 @@
 -- Laws of states: cuts, smaller states, entailed atoms, assignments within a state, empty sets.
-use Rattle.std.proofs.Common.{◌≡◌, ℕ, zero, suc, ◌<◌, ◌≤◌, Bool, true, false, not, ◌⊎◌, List, [], ◌∷◌, length, get_or, set, ℤ, ◌≤ℤ◌, ◌<ℤ◌, Option, Some, None, refl, sym, ◌∙◌, ap, subst, inl, inr, arith}
-use Rattle.std.specs.List.{filter, list_any, list_all}
-use Rattle.std.proofs.lemmas.Int.{ints}
-use Rattle.std.proofs.lemmas.Bool.{false≢true, both_ways, cases_Bool, cases_eq, cases_lt, not-true, not-false, not_from_true, not_from_false, true_from_ne_false, false_from_ne_true}
+use Rattle.std.proofs.Common.{◌≡◌, ℕ, ◌+◌, ◌<◌, ◌≤◌, true, false, ◌⊎◌, List, [], ◌∷◌, length, get_or, set, ℤ, refl, sym, ◌∙◌, ap, subst, inl, inr, arith}
+use Rattle.std.specs.List.{filter}
+use Rattle.std.proofs.lemmas.Bool.{false≢true, both_ways, cases_Bool, cases_eq, cases_lt, not_from_true, true_from_ne_false, false_from_ne_true}
 use Rattle.std.proofs.lemmas.List.{length-set, get_or-set_same, get_or-set_other, set-get_or, set-set, set_comm, set_past, get_or_past, get_or_default, same_lists}
+use Rattle.std.proofs.lemmas.List.Sums.{sum_by-set}
 use Rattle.dp_base.specs.Lists.{Among, Each}
-use Rattle.dp_base.proofs.Lists.{Among-get_or, Contains-from_among, Among-filter_only, Among-filter_all, Each-among, Each-from_among, list_all-at, list_all-from, list_all-fails, list_all-not, list_any-some, list_any-at, list_any-none, list_any-not, filter-whole, filter-filter}
+use Rattle.dp_base.proofs.Lists.{Each-set, length-filter_cases, Among-get_or, Contains-from_among, Among-filter_only, Among-filter_all, Each-among, list_all-at, list_all-from, list_all-fails, list_all-not, list_any-some, list_any-at, list_any-none, filter-whole, filter-filter}
 use Rattle.dp_domain.specs.Atoms.{Atomic, meets, negated}
-use Rattle.dp_domain.specs.declared.atom.Op.{Op}
-use Rattle.dp_domain.specs.declared.atom.Op.TheVariants.{Ge, Le, Eq, Ne}
-use Rattle.dp_domain.specs.Sets.{IsDomain, least, greatest, least_from, greatest_from}
-use Rattle.dp_domain.specs.States.{Domains, values, is_nil, is_dead, entails, entails_all, cut, cut_all, LiesIn, IsWithin}
-use Rattle.dp_domain.specs.Faces.{Covers, AgreesOn, Fixes}
-use Rattle.dp_domain.proofs.AtomLaws.{meets-negated, meets-from_not, not-from_meets, test-from_le}
-use Rattle.dp_domain.proofs.SetLaws.{ascending-same, least-bound, least-among, greatest-bound, greatest-among}
+use Rattle.dp_domain.specs.Sets.{IsDomain}
+use Rattle.dp_domain.specs.States.{Domains, values, is_nil, is_dead, entails, entails_all, cut, cut_all, total, LiesIn, IsWithin}
+use Rattle.dp_domain.proofs.AtomLaws.{meets-negated, meets-from_not, not-from_meets}
+use Rattle.dp_domain.proofs.SetLaws.{IsDomain-filter, ascending-same}
 
 -- ---- the values of a cut
 
@@ -312,3 +309,30 @@ cut_comm d a b = elim (cases_eq a.var b.var) [
 pub cut_all-cut : (d : Domains) (atoms : List Atomic) (a : Atomic) → cut (cut_all d atoms) a ≡ cut_all (cut d a) atoms
 cut_all-cut d [] a = refl
 cut_all-cut d (b ∷ atoms) a = cut_all-cut (cut d b) atoms a ∙ ap (λ e. cut_all e atoms) (cut_comm d b a)
+
+-- ---- how many values there are
+
+set_less : (n m k l : ℕ) → n + k ≡ m + l → l < k → n < m
+set_less n m k l e h = omega arith
+
+-- a cut by an atom that is not entailed leaves fewer values
+pub total-cut : (d : Domains) (a : Atomic) → entails d a ≡ false → total (cut d a) < total d
+total-cut d a e =
+    let f = entails-fails d a e in
+    let h = within-from_value d a.var f.0 f.1 in
+    set_less (total (cut d a)) (total d) (length (values d a.var)) (length (filter (meets a) (values d a.var)))
+    (sum_by-set (λ (xs : List ℤ). length xs) d a.var (filter (meets a) (values d a.var)) [] h)
+    ((length-filter_cases (meets a) (values d a.var)).2 e)
+
+-- ---- domains in a state
+
+-- the values of a variable of a state of domains are a domain
+pub IsDomain-values : (d : Domains) (x : ℕ) → Each IsDomain d → IsDomain (values d x)
+IsDomain-values d x e = elim (cases_lt x (length d)) [
+  | inl h ↦ Each-among IsDomain d e (values d x) (Among-get_or d x [] h)
+  | inr h ↦ subst IsDomain (sym (values-past d x h)) (record { ascending = tt; small = tt })
+]
+
+-- a cut of a state of domains is one of domains
+pub IsDomain-cut : (d : Domains) (a : Atomic) → Each IsDomain d → Each IsDomain (cut d a)
+IsDomain-cut d a e = Each-set IsDomain d a.var (filter (meets a) (values d a.var)) e (IsDomain-filter (meets a) (values d a.var) (IsDomain-values d a.var e))

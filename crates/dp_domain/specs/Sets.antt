@@ -1,5 +1,5 @@
 -- Finite sets of integers, as their values in ascending order.
-use Rattle.std.specs.Prelude.{◌≡◌, ℕ, ◌^◌, Option, Some, None, Bool, if◌then◌else◌, List, [], ◌∷◌, ◌++◌, ℤ, pos, neg_ℤ, ◌+ℤ◌, ◌≤ℤ◌, ◌<ℤ◌, int_le}
+use Rattle.std.specs.Prelude.{◌≡◌, ◌^◌, Option, Some, None, Bool, if◌then◌else◌, List, [], ◌∷◌, ◌++◌, ℤ, pos, neg_ℤ, ◌+ℤ◌, ◌≤ℤ◌, ◌<ℤ◌, int_le}
 use Rattle.std.specs.Int.{int_min, int_max}
 use Rattle.dp_base.specs.Lists.{Among, Each}
 
@@ -67,6 +67,11 @@ with_value x (i ∷ is) = if is_next x i.0 then (x, i.1) ∷ is else (x, x) ∷ 
 abbrev pub intervals_of : List ℤ → List (ℤ × ℤ)
 intervals_of [] = []
 intervals_of (x ∷ xs) = with_value x (intervals_of xs)
+
+-- each interval has a number, and one number or more lies between it and each that follows it
+abbrev pub AreApart : List (ℤ × ℤ) → Type 0
+AreApart [] = Unit {0}
+AreApart (i ∷ is) = (i.0 ≤ℤ i.1) × Each (λ j. (i.1 +ℤ pos 1) <ℤ j.0) is × AreApart is
 
 -- v goes to the end of the intervals of lesser values: it joins the last, or opens one
 abbrev pub with_later : List (ℤ × ℤ) → ℤ → List (ℤ × ℤ)

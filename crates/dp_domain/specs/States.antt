@@ -1,7 +1,7 @@
 -- States: what each variable may still be.
 use Rattle.std.specs.Prelude.{◌≡◌, ℕ, ◌<◌, Bool, true, false, not, ◌&&◌, ◌==◌, List, [], ◌∷◌, length, get_or, slice_set, ℤ}
 use Rattle.std.specs.Prelude.{filter}
-use Rattle.std.specs.List.{list_any, list_all}
+use Rattle.std.specs.List.{list_any, list_all, sum_by}
 use Rattle.dp_base.specs.Lists.{Among}
 use Rattle.dp_domain.specs.Atoms.{Atomic, meets}
 
@@ -38,6 +38,10 @@ cut d a = slice_set d a.var (filter (meets a) (values d a.var))
 abbrev pub cut_all : Domains → List Atomic → Domains
 cut_all d [] = d
 cut_all d (a ∷ atoms) = cut_all (cut d a) atoms
+
+-- how many values there are in all
+abbrev pub total : Domains → ℕ
+total d = sum_by length d
 
 -- the assignment gives each variable one of its values
 abbrev pub LiesIn : (ℕ → ℤ) → Domains → Type 0

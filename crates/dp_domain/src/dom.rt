@@ -4,7 +4,7 @@ ghost use Rattle.std.specs.Prelude.{◌≡◌, ◌&&◌, ◌==◌, ◌≤ℤ◌,
 ghost use Rattle.std.specs.List.{list_all};
 ghost use Rattle.dp_base.specs.Lists.{Among, Each};
 ghost use Rattle.dp_domain.specs.Atoms.{meets};
-ghost use Rattle.dp_domain.specs.Sets.{Collects, IsAscending, IsDomain, IsFollowed, IsSmall, LiesBetween, LiesInOne, greatest, intervals_of, least, with_later};
+ghost use Rattle.dp_domain.specs.Sets.{AreApart, Collects, IsAscending, IsDomain, IsFollowed, IsSmall, LiesBetween, LiesInOne, greatest, intervals_of, least, with_later};
 ghost use Rattle.dp_domain.specs.States.{fails_one, is_nil};
 
 use crate::{Atom, Memory, VarId};
@@ -116,7 +116,9 @@ impl Dom {
 
     /// Its maximal intervals in ascending order, each as its first and its last number.
     pub fn intervals(&self, alloc: Global) -> Result<Vec<(i64, i64)>, Memory>
-        ensures { IfOk result (λ intervals. intervals.items ≡ intervals_of self.now) }
+        ensures intervals { IfOk result (λ intervals. intervals.items ≡ intervals_of self.now) }
+        ensures numbers { IfOk result (λ intervals. Collects self.now (LiesInOne intervals.items)) }
+        ensures apart { IfOk result (λ intervals. AreApart intervals.items) }
     {
         intervals(alloc, self.values.as_slice())
     }
@@ -158,6 +160,7 @@ fn in_order(values: Vec<i64>) -> Result<Vec<i64>, Memory>
     Ok(values)
 }
 
+/// Whether the number is among ascending values.
 fn finds(values: &[i64], number: i64) -> bool
     requires { IsAscending values.now }
     ensures { IsTrue result ↔ Among number values.now }
