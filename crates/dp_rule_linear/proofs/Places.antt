@@ -168,3 +168,8 @@ condition_covered q a d e covers =
 -- and so are those of the terms
 pub terms_covered : (q : Linear) (d : Domains) → Covers (scope_of q) d → Each (λ x. x < length d) (variables q.terms)
 terms_covered q d covers = Each-from_among (λ x. x < length d) (variables q.terms) (λ x here. Each-among (λ y. y < length d) (scope_of q) covers x (variable_in_scope q x here))
+
+-- what holds at each place holds of each
+pub each_from_places : (P : ℕ → Type 0) (xs : List ℕ) → ((k : ℕ) → k < length xs → P (get_or xs k 0)) → Each P xs
+each_from_places P [] f = tt
+each_from_places P (x ∷ xs) f = (f 0 (omega arith), each_from_places P xs (λ k h. f (suc k) (omega arith)))
