@@ -42,7 +42,7 @@ pub length-with_variable : (x : ℕ) (ys : List ℕ) → ¬ (Among x ys) → len
 length-with_variable x [] apart = refl
 length-with_variable x (y ∷ ys) apart =
     elim (order_of x y) [
-        inl before ↦ ap length (with_variable-before x y ys before)
+      | inl before ↦ ap length (with_variable-before x y ys before)
       | inr (inl after) ↦ ap length (with_variable-after x y ys after) ∙ ap suc (length-with_variable x ys (λ here. apart (inr here)))
       | inr (inr one) ↦ absurd (apart (inl one.same))
     ]
@@ -74,7 +74,7 @@ place-added x [] zero climbs apart h below above = refl
 place-added x [] (suc k) climbs apart h below above = absurd (omega arith)
 place-added x (y ∷ ys) zero climbs apart h below above =
     elim (order_of x y) [
-        inl before ↦ ap (λ zs. slice_get zs 0) (with_variable-before x y ys before)
+      | inl before ↦ ap (λ zs. slice_get zs 0) (with_variable-before x y ys before)
       | inr (inl after) ↦ absurd (let less : y < x = after.less in let not : x ≤ y = above (omega arith) in omega arith)
       | inr (inr one) ↦ absurd (apart (inl one.same))
     ]
@@ -87,13 +87,13 @@ pub place-after : (x : ℕ) (ys : List ℕ) (k : ℕ) → Climbs ys → ¬ (Amon
 place-after x [] k climbs apart h above = absurd (omega arith)
 place-after x (y ∷ ys) zero climbs apart h above =
     elim (order_of x y) [
-        inl before ↦ ap (λ zs. slice_get zs 1) (with_variable-before x y ys before)
+      | inl before ↦ ap (λ zs. slice_get zs 1) (with_variable-before x y ys before)
       | inr (inl after) ↦ absurd (let less : y < x = after.less in omega arith)
       | inr (inr one) ↦ absurd (apart (inl one.same))
     ]
 place-after x (y ∷ ys) (suc k) climbs apart h above =
     elim (order_of x y) [
-        inl before ↦ ap (λ zs. slice_get zs (suc (suc k))) (with_variable-before x y ys before) ∙ slice_get-get_or ys k 0 (omega arith)
+      | inl before ↦ ap (λ zs. slice_get zs (suc (suc k))) (with_variable-before x y ys before) ∙ slice_get-get_or ys k 0 (omega arith)
       | inr (inl after) ↦ ap (λ zs. slice_get zs (suc (suc k))) (with_variable-after x y ys after) ∙ place-after x ys k climbs.1 (λ here. apart (inr here)) (omega arith) above
       | inr (inr one) ↦ absurd (apart (inl one.same))
     ]
