@@ -1,11 +1,12 @@
 -- The laws of a sum other than a number.
-use Rattle.std.specs.Prelude.{◌≡◌, ℕ, ◌<◌, Bool, true, false, ◌&&◌, ◌||◌, ◌⊎◌, ◌↔◌, List, [], ◌∷◌, length, unwrap_or, map, ℤ, pos, ◌*ℤ◌, ◌≤ℤ◌, ◌<ℤ◌, int_le}
+use Rattle.std.specs.Prelude.{◌≡◌, ℕ, ◌<◌, Bool, true, false, ◌&&◌, ◌||◌, ◌⊎◌, ◌↔◌, ◌==◌, List, [], ◌∷◌, length, unwrap_or, map, ℤ, pos, ◌*ℤ◌, ◌≤ℤ◌, ◌<ℤ◌, int_le}
 use Rattle.std.specs.List.{list_all}
 use Rattle.std.proofs.Common.{refl, sym, ◌∙◌, ap, subst, inl, inr, arith}
 use Rattle.std.proofs.lemmas.Int.{ints}
+use Rattle.std.proofs.lemmas.Bool.Decides.{Decides-eqb}
 use Rattle.std.proofs.lemmas.Bool.{false≢true, both_ways, false_from_ne_true}
 use Rattle.dp_base.specs.Lists.{Among, Each}
-use Rattle.dp_base.proofs.Lists.{Each-among, Each-from_among, list_all-at, list_all-from}
+use Rattle.dp_base.proofs.Lists.{Each-among, Each-from_among, list_all-at, list_all-from, list_any-at, list_any-some}
 use Rattle.dp_domain.specs.Faces.{AgreesOn, Covers, Fixes, IsLawful}
 use Rattle.dp_domain.specs.Sets.{least}
 use Rattle.dp_domain.specs.States.{Domains, LiesIn, IsWithin, is_dead, values}
@@ -187,3 +188,9 @@ clash_where_not_met q d s fixes fails =
 pub differs_deciding : (q : Linear) (d : Domains) (s : ℕ → ℤ) → is_dead d ≡ false → Fixes (face_differs q).scope s d → ((face_differs q).test d ≡ true) ↔ (MeetsDiffers q s → ⊥)
 differs_deciding q d s alive fixes =
     (λ e. not_met q d s alive fixes (clashes_where q d e), λ fails. true_where q d (clash_where_not_met q d s fixes fails))
+
+-- the values that it may take out are those of the variables of its scope
+pub differs_points : (q : Linear) (x : ℕ) (v : ℤ) → (face_differs q).point x v ≡ true ↔ Among x (scope_of q)
+differs_points q x v =
+    (λ e. let r = list_any-some (λ y. x == y) (scope_of q) e in subst (λ y. Among y (scope_of q)) (sym ((Decides-eqb x r.0).0 r.2)) r.1,
+      λ here. list_any-at (λ y. x == y) (scope_of q) x here ((Decides-eqb x x).1 refl))
