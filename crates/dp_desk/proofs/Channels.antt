@@ -1,6 +1,7 @@
 -- How what calls do to a channel adds up.
-use Rattle.std.proofs.Common.{◌≡◌, ℕ, ◌+◌, List, [], ◌∷◌, ◌++◌, length, take, drop, refl, sym, ◌∙◌, ap, subst, append_assoc}
+use Rattle.std.proofs.Common.{◌≡◌, ℕ, ◌+◌, List, [], ◌∷◌, ◌++◌, length, take, drop, refl, sym, ◌∙◌, ap, subst, append_assoc, Option, Some, None}
 use Rattle.std.proofs.lemmas.List.{append-nil}
+use Rattle.std.proofs.Math.Seq.{take-append_seam}
 use Rattle.dp_desk.specs.Channel.{Channel, Shut, Hidden, Shown, Files, IsOpen, Opens, Shows, Starts, Takes, IsAtEnd, Grows, GrowsByPart}
 
 -- a write of nothing
@@ -107,3 +108,70 @@ starts_open (Shown bytes) starts = tt
 
 pub starts_shown : (a : Channel) (bytes : List ℕ) → a ≡ Shown bytes → Starts a → bytes ≡ []
 starts_shown a bytes is starts = let P : Channel → Type 0 = Starts in subst P is starts
+
+shows_open : (o : Option (List ℕ)) (now : Channel) → Shows o now → IsOpen now
+shows_open None now shows = absurd shows
+shows_open (Some bytes) now shows = subst IsOpen (sym shows) tt
+
+shows : (o : Option (List ℕ)) (now : Channel) → Shows o now → (bytes : List ℕ) × (o ≡ Some bytes) × (now ≡ Shown bytes)
+shows None now is = absurd is
+shows (Some bytes) now is = (bytes, refl, is)
+
+-- an input that was opened is open
+pub opens_open : (names : Option Files) (name : List ℕ) (now : Channel) → Opens names name now → IsOpen now
+opens_open None name now opens = opens
+opens_open (Some files) name now opens = shows_open (files name) now opens
+
+-- where names are told, what an opened input shows is what its name holds
+pub opens_shown : (names : Option Files) (files : Files) (name : List ℕ) (now : Channel) → names ≡ Some files →
+    Opens names name now → (bytes : List ℕ) × (files name ≡ Some bytes) × (now ≡ Shown bytes)
+opens_shown names files name now is opens = shows (files name) now (subst (λ n. Opens n name now) is opens)
+
+-- where names are told, a name that holds nothing is not opened
+pub opens_no_absent : (names : Option Files) (files : Files) (name : List ℕ) (now : Channel) → names ≡ Some files →
+    files name ≡ None → Opens names name now → ⊥
+opens_no_absent names files name now is absent opens =
+    subst (λ o. Shows o now) absent (subst (λ n. Opens n name now) is opens)
+
+-- bytes that were read are the first of those that were left
+pub takes_front : (a b : Channel) (left x : List ℕ) → a ≡ Shown left → Takes a b x → take (length x) left ≡ x
+takes_front a b left x is takes =
+    let t = takes_shown a b left x is takes in ap (take (length x)) t.2 ∙ take-append_seam x t.0
+
+-- an input that was read to its end gave all that was left
+pub takes_all : (a b : Channel) (left x : List ℕ) → a ≡ Shown left → Takes a b x → IsAtEnd b → left ≡ x
+takes_all a b left x is takes end =
+    let t = takes_shown a b left x is takes in
+    t.2 ∙ ap (λ r. x ++ r) (at_end_shown b t.0 t.1 end) ∙ append-nil x
+
+-- all of the bytes is a part of them
+pub grows_by_all : (a b : Channel) (x : List ℕ) → Grows a b x → GrowsByPart a b x
+grows_by_all a b x grows = record { front = x; rest = []; whole = sym (append-nil x); grows = grows }
+
+-- a part of a front is a part of the whole
+pub grows_by_front : (a b : Channel) (x y : List ℕ) → GrowsByPart a b x → GrowsByPart a b (x ++ y)
+grows_by_front a b x y part = record {
+  front = part.front;
+  rest = part.rest ++ y;
+  whole = ap (λ w. w ++ y) part.whole ∙ append_assoc part.front part.rest y;
+  grows = part.grows;
+}
+
+-- a write, and then a part of another
+pub grows_then_part : (a b c : Channel) (x y : List ℕ) → Grows a b x → GrowsByPart b c y → GrowsByPart a c (x ++ y)
+grows_then_part a b c x y grows part = record {
+  front = x ++ part.front;
+  rest = part.rest;
+  whole = ap (λ w. x ++ w) part.whole ∙ sym (append_assoc x part.front part.rest);
+  grows = grows_twice a b c x part.front grows part.grows;
+}
+
+-- after a part of the bytes what was written to is open
+pub part_open : (a b : Channel) (x : List ℕ) → GrowsByPart a b x → IsOpen b
+part_open a b x part = grows_open a b part.front part.grows
+
+-- what is told after a part of the bytes was told before it, and is what was there and a front of them
+pub part_shown : (a b : Channel) (now x : List ℕ) → b ≡ Shown now → GrowsByPart a b x →
+    (was : List ℕ) × (front : List ℕ) × (rest : List ℕ) × (a ≡ Shown was) × (now ≡ was ++ front) × (x ≡ front ++ rest)
+part_shown a b now x is part =
+    let g = grows_shown a b now part.front is part.grows in (g.0, part.front, part.rest, g.1, g.2, part.whole)

@@ -1,4 +1,5 @@
 pub mod Channels
+pub mod Counts
 pub mod Files
 pub mod Sights
 pub mod Writing

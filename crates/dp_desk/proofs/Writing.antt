@@ -18,7 +18,7 @@ pub written_more : (was mid now : Channel) (bytes rest : List ℕ) (count : ℕ)
 written_more was mid now bytes rest count w grows = record {
   front = w.front ++ take count rest;
   whole = w.whole ∙ ap (λ r. w.front ++ r) (sym (take-append-drop count rest)) ∙ sym (append_assoc w.front (take count rest) (drop count rest));
-  grows = grows_twice was mid now w.front (take count rest) w.grows grows
+  grows = grows_twice was mid now w.front (take count rest) w.grows grows;
 }
 
 pub written_open : (was now : Channel) (bytes rest : List ℕ) → Written was now bytes rest → IsOpen now

@@ -17,5 +17,5 @@ in_memory desk = record {
   log = left_at desk.files.items desk.log;
   answer = shown_bytes (channel_of desk.answer);
   first = channel_of desk.first;
-  second = channel_of desk.second
+  second = channel_of desk.second;
 }

@@ -25,7 +25,7 @@ host_sight desk = record {
   log = stream desk.log;
   answer = Hidden;
   first = stream desk.first;
-  second = stream desk.second
+  second = stream desk.second;
 }
 
 -- a new one: only the answer is open
@@ -36,7 +36,7 @@ idle = record {
   first = false;
   second = false;
   faults_in = 0;
-  faults_out = 0
+  faults_out = 0;
 }
 
 -- it tells no names

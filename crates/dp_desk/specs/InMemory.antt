@@ -46,7 +46,7 @@ told desk = record {
   log = opened_input desk.log;
   answer = open_output desk.answer;
   first = desk.first;
-  second = desk.second
+  second = desk.second;
 }
 
 -- a count with one more, which stops at its last value
@@ -109,5 +109,5 @@ fresh files piece failing = record {
   log = None;
   answer = Some [];
   first = Shut;
-  second = Shut
+  second = Shut;
 }

@@ -11,3 +11,6 @@ pub use desk::{Desk, Failed, In, Out};
 pub use host_desk::HostDesk;
 pub use memory_desk::MemoryDesk;
 pub use write::write_all;
+
+#[cfg(test)]
+mod tests;
