@@ -1,5 +1,5 @@
 -- How what calls do to a channel adds up.
-use Rattle.std.proofs.Common.{◌≡◌, ℕ, ◌+◌, List, [], ◌∷◌, ◌++◌, length, take, drop, refl, sym, ◌∙◌, ap, subst, append_assoc, Option, Some, None}
+use Rattle.std.proofs.Common.{◌≡◌, ℕ, List, [], ◌++◌, length, take, refl, sym, ◌∙◌, ap, subst, append_assoc, Option, Some, None}
 use Rattle.std.proofs.lemmas.List.{append-nil}
 use Rattle.std.proofs.Math.Seq.{take-append_seam}
 use Rattle.dp_desk.specs.Channel.{Channel, Shut, Hidden, Shown, Files, IsOpen, Opens, Shows, Starts, Takes, IsAtEnd, Grows, GrowsByPart}

@@ -1,5 +1,5 @@
 -- The desk of the machine, which tells only what was opened.
-use Rattle.std.specs.Prelude.{◌≡◌, ℕ, Bool, true, false, Option, Some, None, is_some}
+use Rattle.std.specs.Prelude.{ℕ, Bool, true, false, None}
 use Rattle.dp_desk.specs.Channel.{Channel, Shut, Hidden}
 use Rattle.dp_desk.specs.Sight.{Sight, TellsInputs}
 

@@ -1,6 +1,6 @@
 -- All that a desk tells.
-use Rattle.std.specs.Prelude.{◌≡◌, ℕ, List, Option, Some}
-use Rattle.dp_desk.specs.Channel.{Channel, Shut, Hidden, Shown, Files, IsOpen}
+use Rattle.std.specs.Prelude.{◌≡◌, Option, Some}
+use Rattle.dp_desk.specs.Channel.{Channel, Hidden, Files}
 use Rattle.dp_desk.specs.declared.desk.In.{In}
 use Rattle.dp_desk.specs.declared.desk.In.TheVariants.{Model, Log}
 use Rattle.dp_desk.specs.declared.desk.Out.{Out}

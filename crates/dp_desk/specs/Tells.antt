@@ -1,9 +1,8 @@
 -- What holds of all that a desk in memory tells.
 use Rattle.std.specs.Prelude.{◌≡◌, ℕ, List, Option, Some, None}
-use Rattle.dp_desk.specs.Channel.{Channel, Shut, Hidden, Shown, Files, IsOpen}
-use Rattle.dp_desk.specs.Sight.{TellsInputs, input}
+use Rattle.dp_desk.specs.Channel.{Hidden, IsOpen}
+use Rattle.dp_desk.specs.Sight.{TellsInputs}
 use Rattle.dp_desk.specs.InMemory.{InMemory, told, opened_input, open_output}
-use Rattle.dp_desk.specs.declared.desk.In.{In}
 use Rattle.dp_desk.specs.declared.desk.In.TheVariants.{Model, Log}
 
 never_hidden : (left : Option (List ℕ)) → opened_input left ≡ Hidden → ⊥

@@ -170,15 +170,16 @@ impl Desk for MemoryDesk {
         ensures fault { OnErr result (self.new ≡ failed_out self.old) }
     {
         if count_call(&mut self.calls, &self.failing) {
-            return Err(count_fault(&mut self.faults_out));
+            Err(count_fault(&mut self.faults_out))
+        } else {
+            let empty = Sheet::Kept(Vec::new(self.alloc));
+            match which {
+                Out::Answer => self.answer = empty,
+                Out::First => self.first = empty,
+                Out::Second => self.second = empty,
+            }
+            Ok(())
         }
-        let empty = Sheet::Kept(Vec::new(self.alloc));
-        match which {
-            Out::Answer => self.answer = empty,
-            Out::First => self.first = empty,
-            Out::Second => self.second = empty,
-        }
-        Ok(())
     }
 
     fn write(&mut self, which: Out, bytes: &[u8]) -> Result<usize, Failed>
