@@ -1,7 +1,7 @@
 // The desk of the machine: files, and the standard output for the answer.
 
 ghost use Rattle.std.specs.Prelude.{◌≡◌, ◌<◌, ◌≤◌, ℕ, length, IfSome, IsTrue, is_some};
-ghost use Rattle.dp_desk.specs.Host.{host_sight, host_tells_inputs, idle};
+ghost use Rattle.dp_desk.specs.Host.{host_sight, idle};
 
 use crate::storage::count_fault;
 use crate::{Desk, Failed, In, Out};
@@ -57,7 +57,7 @@ impl<R: Files + Print> Desk for HostDesk<'_, R> {
 
     ghost answer_open = { λ desk. tt };
 
-    ghost tells_inputs = { host_tells_inputs };
+    ghost tells_inputs = { λ desk. tt };
 
     fn open_in(&mut self, which: In, name: &str) -> Result<(), Failed> {
         match fs::open(self.rt, name) {
