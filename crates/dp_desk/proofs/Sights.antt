@@ -1,6 +1,6 @@
 -- What changes one channel of a desk, and nothing else.
-use Rattle.std.proofs.Common.{◌≡◌, ℕ, List, refl, sym, ◌∙◌, ap, subst}
-use Rattle.dp_desk.specs.Channel.{Channel, IsOpen}
+use Rattle.std.proofs.Common.{◌≡◌, refl, ◌∙◌, ap}
+use Rattle.dp_desk.specs.Channel.{Channel}
 use Rattle.dp_desk.specs.Sight.{Sight, input, output, with_input, with_output}
 use Rattle.dp_desk.specs.declared.desk.In.{In}
 use Rattle.dp_desk.specs.declared.desk.In.TheVariants.{Model, Log}

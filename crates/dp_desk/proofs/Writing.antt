@@ -1,5 +1,5 @@
 -- What stands while a text is written piece by piece.
-use Rattle.std.proofs.Common.{◌≡◌, ℕ, List, [], ◌++◌, length, take, drop, refl, sym, ◌∙◌, ap, subst, append_assoc}
+use Rattle.std.proofs.Common.{◌≡◌, ℕ, List, [], ◌++◌, take, drop, refl, sym, ◌∙◌, ap, subst, append_assoc}
 use Rattle.std.proofs.lemmas.List.{append-nil, take-append-drop}
 use Rattle.dp_desk.specs.Channel.{Channel, IsOpen, Grows, GrowsByPart}
 use Rattle.dp_desk.proofs.Channels.{grows_by_none, grows_twice, grows_open}

@@ -17,6 +17,11 @@ IsOpen Shut = ⊥
 IsOpen Hidden = Unit {0}
 IsOpen (Shown bytes) = Unit {0}
 
+-- it is told, if it was opened
+abbrev pub IsNotHidden : Channel → Type 0
+IsNotHidden Hidden = ⊥
+IsNotHidden _ = Unit {0}
+
 -- it is told as these bytes, which there are
 abbrev pub Shows : Option (List ℕ) → Channel → Type 0
 Shows None now = ⊥

@@ -1,5 +1,4 @@
 -- What the fields of a desk in memory stand for.
-use Rattle.std.specs.Prelude.{List}
 use Rattle.dp_desk.specs.InMemory.{InMemory, shown_bytes}
 use Rattle.dp_desk.specs.Places.{left_at, channel_of}
 use Rattle.dp_desk.specs.declared.memory_desk.MemoryDesk.TheInside.{Inside}

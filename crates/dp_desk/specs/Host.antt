@@ -1,7 +1,7 @@
 -- The desk of the machine, which tells only what was opened.
-use Rattle.std.specs.Prelude.{◌≡◌, ℕ, Bool, true, false, Option, Some, None, is_some}
+use Rattle.std.specs.Prelude.{ℕ, Bool, true, false, None}
 use Rattle.dp_desk.specs.Channel.{Channel, Shut, Hidden}
-use Rattle.dp_desk.specs.Sight.{Sight, TellsInputs}
+use Rattle.dp_desk.specs.Sight.{Sight}
 
 -- which of its streams were opened beside the answer, and how often it has failed
 pub record Host : Type 0 where
@@ -38,7 +38,3 @@ idle = record {
   faults_in = 0;
   faults_out = 0;
 }
-
--- it tells no names
-pub host_tells_inputs : (desk : Host) → TellsInputs (host_sight desk)
-host_tells_inputs desk files which names hidden = cc

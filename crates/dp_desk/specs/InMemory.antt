@@ -1,5 +1,5 @@
 -- A desk in memory: what it holds, what it tells, and what a call makes of it.
-use Rattle.std.specs.Prelude.{◌≡◌, ℕ, ◌+◌, ◌-◌, ◌^◌, min, Bool, List, [], ◌++◌, Option, Some, None, ◌==◌, option_map, unwrap_or, find, slice_get, drop, length, bytes_eq}
+use Rattle.std.specs.Prelude.{ℕ, ◌+◌, ◌-◌, ◌^◌, min, Bool, List, [], Option, Some, None, ◌==◌, option_map, unwrap_or, find, bytes_eq}
 use Rattle.std.specs.List.{list_any}
 use Rattle.dp_desk.specs.Channel.{Channel, Shut, Hidden, Shown, Files}
 use Rattle.dp_desk.specs.Sight.{Sight}

@@ -1,5 +1,5 @@
 -- What the parts of a desk in memory stand for.
-use Rattle.std.specs.Prelude.{◌≡◌, ℕ, ◌≤◌, ◌++◌, List, [], Option, Some, None, option_map, unwrap_or, slice_get, drop}
+use Rattle.std.specs.Prelude.{◌≡◌, ℕ, List, [], Option, Some, None, option_map, unwrap_or, slice_get, drop}
 use Rattle.dp_desk.specs.Channel.{Channel, Shut, Hidden, Shown, Grows}
 use Rattle.dp_desk.specs.declared.storage.Place.{Place}
 use Rattle.dp_desk.specs.declared.storage.Sheet.{Sheet}

@@ -1,6 +1,6 @@
 -- All that a desk tells.
-use Rattle.std.specs.Prelude.{◌≡◌, ℕ, List, Option, Some}
-use Rattle.dp_desk.specs.Channel.{Channel, Shut, Hidden, Shown, Files, IsOpen}
+use Rattle.std.specs.Prelude.{Option, IfSome}
+use Rattle.dp_desk.specs.Channel.{Channel, Files, IsNotHidden}
 use Rattle.dp_desk.specs.declared.desk.In.{In}
 use Rattle.dp_desk.specs.declared.desk.In.TheVariants.{Model, Log}
 use Rattle.dp_desk.specs.declared.desk.Out.{Out}
@@ -39,4 +39,4 @@ with_output Second now sight = record sight { second = now }
 
 -- a desk that tells what its names hold tells what is left of each opened input
 abbrev pub TellsInputs : Sight → Type 0
-TellsInputs sight = (files : Files) (which : In) → sight.names ≡ Some files → input which sight ≡ Hidden → ⊥
+TellsInputs sight = IfSome sight.names (λ files. IsNotHidden sight.model × IsNotHidden sight.log)

@@ -1,18 +1,15 @@
 -- What holds of all that a desk in memory tells.
-use Rattle.std.specs.Prelude.{◌≡◌, ℕ, List, Option, Some, None}
-use Rattle.dp_desk.specs.Channel.{Channel, Shut, Hidden, Shown, Files, IsOpen}
-use Rattle.dp_desk.specs.Sight.{TellsInputs, input}
+use Rattle.std.specs.Prelude.{ℕ, List, Option, Some, None}
+use Rattle.dp_desk.specs.Channel.{IsNotHidden, IsOpen}
+use Rattle.dp_desk.specs.Sight.{TellsInputs}
 use Rattle.dp_desk.specs.InMemory.{InMemory, told, opened_input, open_output}
-use Rattle.dp_desk.specs.declared.desk.In.{In}
-use Rattle.dp_desk.specs.declared.desk.In.TheVariants.{Model, Log}
 
-never_hidden : (left : Option (List ℕ)) → opened_input left ≡ Hidden → ⊥
-never_hidden None is = cc
-never_hidden (Some bytes) is = cc
+input_told : (left : Option (List ℕ)) → IsNotHidden (opened_input left)
+input_told None = tt
+input_told (Some bytes) = tt
 
 pub memory_tells_inputs : (desk : InMemory) → TellsInputs (told desk)
-memory_tells_inputs desk files Model names hidden = never_hidden desk.model hidden
-memory_tells_inputs desk files Log names hidden = never_hidden desk.log hidden
+memory_tells_inputs desk = (input_told desk.model, input_told desk.log)
 
 always_open : (written : Option (List ℕ)) → IsOpen (open_output written)
 always_open None = tt

@@ -1,8 +1,9 @@
 // The desk of the machine: files, and the standard output for the answer.
 
-ghost use Rattle.std.specs.Prelude.{◌≡◌, ◌<◌, ◌≤◌, ℕ, length, IfOk, IsTrue, is_some};
-ghost use Rattle.dp_desk.specs.Host.{host_sight, host_tells_inputs, idle};
+ghost use Rattle.std.specs.Prelude.{◌≡◌, ◌<◌, ◌≤◌, ℕ, length, IfSome, IsTrue, is_some};
+ghost use Rattle.dp_desk.specs.Host.{host_sight, idle};
 
+use crate::storage::count_fault;
 use crate::{Desk, Failed, In, Out};
 use std::io::{Read, Write};
 use std::marker::Model;
@@ -56,7 +57,7 @@ impl<R: Files + Print> Desk for HostDesk<'_, R> {
 
     ghost answer_open = { λ desk. tt };
 
-    ghost tells_inputs = { host_tells_inputs };
+    ghost tells_inputs = { λ desk. tt };
 
     fn open_in(&mut self, which: In, name: &str) -> Result<(), Failed> {
         match fs::open(self.rt, name) {
@@ -67,10 +68,7 @@ impl<R: Files + Print> Desk for HostDesk<'_, R> {
                 }
                 Ok(())
             }
-            Err(_) => {
-                self.faults_in = self.faults_in.saturating_add(1);
-                Err(Failed)
-            }
+            Err(_) => Err(count_fault(&mut self.faults_in)),
         }
     }
 
@@ -79,10 +77,10 @@ impl<R: Files + Print> Desk for HostDesk<'_, R> {
             In::Model => read_from(&mut self.model, into),
             In::Log => read_from(&mut self.log, into),
         };
-        if taken.is_err() {
-            self.faults_in = self.faults_in.saturating_add(1);
+        match taken {
+            Some(count) => Ok(count),
+            None => Err(count_fault(&mut self.faults_in)),
         }
-        taken
     }
 
     fn open_out(&mut self, which: Out, name: &str) -> Result<(), Failed> {
@@ -95,10 +93,7 @@ impl<R: Files + Print> Desk for HostDesk<'_, R> {
                 }
                 Ok(())
             }
-            Err(_) => {
-                self.faults_out = self.faults_out.saturating_add(1);
-                Err(Failed)
-            }
+            Err(_) => Err(count_fault(&mut self.faults_out)),
         }
     }
 
@@ -108,46 +103,40 @@ impl<R: Files + Print> Desk for HostDesk<'_, R> {
             Out::First => write_to(&mut self.first, bytes),
             Out::Second => write_to(&mut self.second, bytes),
         };
-        if taken.is_err() {
-            self.faults_out = self.faults_out.saturating_add(1);
+        match taken {
+            Some(count) => Ok(count),
+            None => Err(count_fault(&mut self.faults_out)),
         }
-        taken
     }
 }
 
 // Reads from a file that was opened.
-fn read_from<F: Read>(file: &mut Option<F>, into: &mut [u8]) -> Result<usize, Failed>
+fn read_from<F: Read>(file: &mut Option<F>, into: &mut [u8]) -> Option<usize>
     requires { IsTrue (is_some file.old) }
     ensures opened { IsTrue (is_some file.new) }
-    ensures bound { IfOk result (λ count. count ≤ length into.old) }
+    ensures bound { IfSome result (λ count. count ≤ length into.old) }
 {
-    match file {
-        Some(file) => file.read(into).map_err(|_| Failed),
-        None => Err(Failed),
-    }
+    file.as_mut()?.read(into).ok()
 }
 
 // Writes to a file that was opened.
-fn write_to<F: Write>(file: &mut Option<F>, bytes: &[u8]) -> Result<usize, Failed>
+fn write_to<F: Write>(file: &mut Option<F>, bytes: &[u8]) -> Option<usize>
     requires { IsTrue (is_some file.old) }
     ensures opened { IsTrue (is_some file.new) }
-    ensures bound { IfOk result (λ count. count ≤ length bytes.now) }
-    ensures some { IfOk result (λ count. 0 < length bytes.now → 0 < count) }
+    ensures bound { IfSome result (λ count. count ≤ length bytes.now) }
+    ensures some { IfSome result (λ count. 0 < length bytes.now → 0 < count) }
 {
-    match file {
-        Some(file) => write_some(file, bytes),
-        None => Err(Failed),
-    }
+    write_some(file.as_mut()?, bytes)
 }
 
 // Writes at least one of the bytes, if there are any: a write that takes none of them has failed.
-fn write_some<W: Write>(to: &mut W, bytes: &[u8]) -> Result<usize, Failed>
-    ensures bound { IfOk result (λ count. count ≤ length bytes.now) }
-    ensures some { IfOk result (λ count. 0 < length bytes.now → 0 < count) }
+fn write_some<W: Write>(to: &mut W, bytes: &[u8]) -> Option<usize>
+    ensures bound { IfSome result (λ count. count ≤ length bytes.now) }
+    ensures some { IfSome result (λ count. 0 < length bytes.now → 0 < count) }
 {
     match to.write(bytes) {
-        Ok(0) if !bytes.is_empty() => Err(Failed),
-        Ok(count) => Ok(count),
-        Err(_) => Err(Failed),
+        Ok(0) if !bytes.is_empty() => None,
+        Ok(count) => Some(count),
+        Err(_) => None,
     }
 }

@@ -7,7 +7,7 @@ ghost use Rattle.dp_desk.specs.Sight.{Sight, input, output, with_input, with_out
 ghost use Rattle.dp_desk.specs.InMemory.{held, told, fresh, raised, fails_next, counted, failed_in, failed_out, bytes_left, with_left, written_to, with_written};
 ghost use Rattle.dp_desk.specs.Tells.{memory_tells_inputs, memory_answer_open};
 
-use crate::storage::{Place, Sheet, append, count_call, find_file, take_from};
+use crate::storage::{Place, Sheet, append, count_call, count_fault, find_file, take_from};
 use crate::{Desk, Failed, In, Out};
 use dp_base::{Name, Text};
 use std::alloc::Global;
@@ -114,20 +114,18 @@ impl Desk for MemoryDesk {
         ensures after { OnOk result (IfSome (held self.old.files name.now) (λ bytes. self.new ≡ with_left which bytes (counted self.old))) }
         ensures fault { OnErr result (self.new ≡ failed_in self.old) }
     {
-        if count_call(&mut self.calls, &self.failing) {
-            self.faults_in = self.faults_in.saturating_add(1);
-            return Err(Failed);
+        let listed = count_call(&mut self.calls, &self.failing);
+        match find_file(&self.files, name) {
+            Some(file) if !listed => {
+                let place = Some(Place { file, at: 0 });
+                match which {
+                    In::Model => self.model = place,
+                    In::Log => self.log = place,
+                }
+                Ok(())
+            }
+            _ => Err(count_fault(&mut self.faults_in)),
         }
-        let Some(file) = find_file(&self.files, name) else {
-            self.faults_in = self.faults_in.saturating_add(1);
-            return Err(Failed);
-        };
-        let place = Some(Place { file, at: 0 });
-        match which {
-            In::Model => self.model = place,
-            In::Log => self.log = place,
-        }
-        Ok(())
     }
 
     fn read(&mut self, which: In, into: &mut [u8]) -> Result<usize, Failed>
@@ -149,8 +147,7 @@ impl Desk for MemoryDesk {
         ensures untouched { OnErr result (into.new ≡ into.old) }
     {
         if count_call(&mut self.calls, &self.failing) {
-            self.faults_in = self.faults_in.saturating_add(1);
-            return Err(Failed);
+            return Err(count_fault(&mut self.faults_in));
         }
         let count = match which {
             In::Model => take_from(&self.files, &mut self.model, self.piece, into),
@@ -173,16 +170,16 @@ impl Desk for MemoryDesk {
         ensures fault { OnErr result (self.new ≡ failed_out self.old) }
     {
         if count_call(&mut self.calls, &self.failing) {
-            self.faults_out = self.faults_out.saturating_add(1);
-            return Err(Failed);
+            Err(count_fault(&mut self.faults_out))
+        } else {
+            let empty = Sheet::Kept(Vec::new(self.alloc));
+            match which {
+                Out::Answer => self.answer = empty,
+                Out::First => self.first = empty,
+                Out::Second => self.second = empty,
+            }
+            Ok(())
         }
-        let empty = Sheet::Kept(Vec::new(self.alloc));
-        match which {
-            Out::Answer => self.answer = empty,
-            Out::First => self.first = empty,
-            Out::Second => self.second = empty,
-        }
-        Ok(())
     }
 
     fn write(&mut self, which: Out, bytes: &[u8]) -> Result<usize, Failed>
@@ -202,8 +199,7 @@ impl Desk for MemoryDesk {
         ensures fault { OnErr result (self.new ≡ failed_out self.old) }
     {
         if count_call(&mut self.calls, &self.failing) {
-            self.faults_out = self.faults_out.saturating_add(1);
-            return Err(Failed);
+            return Err(count_fault(&mut self.faults_out));
         }
         let count = self.piece.min(bytes.len());
         let part = &bytes[..count];

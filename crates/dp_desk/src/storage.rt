@@ -6,6 +6,7 @@ ghost use Rattle.dp_desk.specs.Channel.{Shut};
 ghost use Rattle.dp_desk.specs.InMemory.{held, raised};
 ghost use Rattle.dp_desk.specs.Places.{bytes_at, left_bytes, left_at, channel_of, GrowsIfOpen};
 
+use crate::Failed;
 use crate::write::rest_of;
 use dp_base::{Name, Text};
 
@@ -31,6 +32,15 @@ pub(crate) fn count_call(calls: &mut u64, listed: &[u64]) -> bool
 {
     *calls = calls.saturating_add(1);
     listed.contains(calls)
+}
+
+// Counts one more fault.
+pub(crate) fn count_fault(faults: &mut u64) -> Failed
+    ensures count { faults.new ≡ raised faults.old }
+    ensures later { faults.old ≤ faults.new }
+{
+    *faults = faults.saturating_add(1);
+    Failed
 }
 
 // The place of the first file with this name.

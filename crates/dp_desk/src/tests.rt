@@ -1,6 +1,10 @@
 use super::*;
 use dp_base::{Name, Text};
 use std::alloc::{AllocError, Global};
+<<<<<<< HEAD
+=======
+use std::fs;
+>>>>>>> 7adc60cf99b511c874da1f378dbdba0231367967
 use std::test::Fail;
 
 // Two files of one name, of which the first counts, and a third.
@@ -13,23 +17,63 @@ fn files(alloc: Global) -> Result<Vec<(Name, Text)>, AllocError> {
     Ok(files)
 }
 
+<<<<<<< HEAD
 // Opens an input, reads once, and answers what came into a buffer of 6 bytes.
 fn first_read<D: Desk>(desk: &mut D, which: In, name: &str) -> Result<(usize, [u8; 6]), Failed> {
     desk.open_in(which, name)?;
     let mut into = [0; 6];
+=======
+// A desk with these files, which moves four bytes at once, and of which one call fails.
+fn desk_failing_at(alloc: Global, call: u64) -> Result<MemoryDesk, AllocError> {
+    Ok(MemoryDesk::new(alloc, files(alloc)?, 4, [call].to_vec(alloc)?))
+}
+
+// Opens an input and reads once: how many bytes came into a buffer of 6, and the buffer.
+fn first_read<D: Desk>(desk: &mut D, which: In, name: &str) -> Result<(usize, [u8; 6]), Failed> {
+    let mut into = [0; 6];
+    desk.open_in(which, name)?;
+>>>>>>> 7adc60cf99b511c874da1f378dbdba0231367967
     let count = desk.read(which, &mut into)?;
     Ok((count, into))
 }
 
+<<<<<<< HEAD
 // Opens the first output and writes to it once.
 fn first_write<D: Desk>(desk: &mut D, name: &str, bytes: &[u8]) -> Result<usize, Failed> {
     desk.open_out(Out::First, name)?;
     desk.write(Out::First, bytes)
+=======
+// Opens an input, reads it four times, and answers how many bytes came each time.
+fn four_reads<D: Desk>(desk: &mut D, name: &str) -> Result<[usize; 4], Failed> {
+    let mut into = [0; 6];
+    desk.open_in(In::Model, name)?;
+    let first = desk.read(In::Model, &mut into)?;
+    let second = desk.read(In::Model, &mut into[..3])?;
+    let third = desk.read(In::Model, &mut into)?;
+    let fourth = desk.read(In::Model, &mut into)?;
+    Ok([first, second, third, fourth])
+}
+
+// Opens an output and writes all of a text.
+fn write_text<D: Desk>(desk: &mut D, name: &str, text: &str) -> Result<(), Failed> {
+    desk.open_out(Out::First, name)?;
+    write_all(desk, Out::First, text.as_bytes())
+}
+
+// Four calls: copies what one read gives of an input by one write.
+fn copy_once<D: Desk>(desk: &mut D, from: &str, to: &str) -> Result<usize, Failed> {
+    let mut into = [0; 6];
+    desk.open_in(In::Log, from)?;
+    let count = desk.read(In::Log, &mut into)?;
+    desk.open_out(Out::Second, to)?;
+    desk.write(Out::Second, &into[..count])
+>>>>>>> 7adc60cf99b511c874da1f378dbdba0231367967
 }
 
 #[test]
 fn inputs_come_in_pieces(rt: HostRuntime) -> Result<(), Fail> {
     let alloc = rt.alloc();
+<<<<<<< HEAD
     let mut desk = MemoryDesk::new(alloc, files(alloc)?, 4, Vec::new(alloc));
     let mut into = [0; 6];
     assert_eq!(rt; first_read(&mut desk, In::Model, "m")?, (4, *b"abcd\0\0"));
@@ -66,12 +110,27 @@ fn inputs_come_in_pieces(rt: HostRuntime) -> Result<(), Fail> {
     desk.open_in(In::Model, "m")?;
     assert_eq!(rt; desk.read(In::Model, &mut into)?, 4, "opened again");
     assert_eq!(rt; into, *b"abcd\0\0");
+=======
+    let mut desk = desk_failing_at(alloc, 0)?;
+    let rows = [
+        ("m", Ok((4, *b"abcd\0\0"))),
+        ("absent", Err(Failed)),
+        ("l", Ok((2, *b"xy\0\0\0\0"))),
+        ("m", Ok((4, *b"abcd\0\0"))),
+    ];
+    for (name, want) in rows {
+        assert_eq!(rt; first_read(&mut desk, In::Model, name), want, "{name}");
+        assert_eq!(rt; first_read(&mut desk, In::Log, name), want, "{name}");
+    }
+    assert_eq!(rt; four_reads(&mut desk, "m"), Ok([4, 3, 3, 0]));
+>>>>>>> 7adc60cf99b511c874da1f378dbdba0231367967
     Ok(())
 }
 
 #[test]
 fn outputs_grow_in_pieces(rt: HostRuntime) -> Result<(), Fail> {
     let alloc = rt.alloc();
+<<<<<<< HEAD
     let mut desk = MemoryDesk::new(alloc, files(alloc)?, 4, Vec::new(alloc));
     assert_eq!(rt; desk.written(Out::Answer), Some(b"".as_slice()));
     assert_eq!(rt; desk.written(Out::First), None);
@@ -124,12 +183,62 @@ fn listed_calls_fail(rt: HostRuntime) -> Result<(), Fail> {
         "call 11"
     );
     assert_eq!(rt; desk.written(Out::First), Some(b"01234567".as_slice()));
+=======
+    let mut desk = desk_failing_at(alloc, 0)?;
+    assert_eq!(rt; desk.written(Out::First), None);
+    for text in ["0123456789", "", "xyz"] {
+        assert_eq!(rt; write_text(&mut desk, "f", text), Ok(()));
+        assert_eq!(rt; desk.written(Out::First), Some(text.as_bytes()));
+    }
+    assert_eq!(rt; desk.written(Out::Second), None);
+    assert_eq!(rt; desk.written(Out::Answer), Some(b"".as_slice()));
+    assert_eq!(rt; desk.write(Out::Answer, b"hello")?, 4);
+    assert_eq!(rt; desk.written(Out::Answer), Some(b"hell".as_slice()));
+    Ok(())
+}
+
+#[test]
+fn listed_calls_fail(rt: HostRuntime) -> Result<(), Fail> {
+    let alloc = rt.alloc();
+    let rows = [
+        (1, Err(Failed), None),
+        (2, Err(Failed), None),
+        (3, Err(Failed), None),
+        (4, Err(Failed), Some("")),
+        (5, Ok(4), Some("abcd")),
+    ];
+    for (call, want, written) in rows {
+        let mut desk = desk_failing_at(alloc, call)?;
+        assert_eq!(rt; copy_once(&mut desk, "m", "s"), want, "{call}");
+        assert_eq!(rt;
+            desk.written(Out::Second),
+            written.map(|text: &str| text.as_bytes()),
+            "{call}"
+        );
+        assert_eq!(rt; copy_once(&mut desk, "l", "s").is_ok(), call < 5, "{call}");
+    }
+    Ok(())
+}
+
+#[test]
+fn a_failed_write_ends_a_text(rt: HostRuntime) -> Result<(), Fail> {
+    let alloc = rt.alloc();
+    for (call, want) in [(2, 0), (3, 4), (4, 8)] {
+        let mut desk = desk_failing_at(alloc, call)?;
+        assert_eq!(rt; write_text(&mut desk, "f", "0123456789"), Err(Failed));
+        assert_eq!(rt;
+            desk.written(Out::First).map(|bytes| bytes.len()),
+            Some(want)
+        );
+    }
+>>>>>>> 7adc60cf99b511c874da1f378dbdba0231367967
     Ok(())
 }
 
 #[test]
 fn the_machine_keeps_a_file(rt: HostRuntime) -> Result<(), Fail> {
     let mut desk = HostDesk::new(&rt);
+<<<<<<< HEAD
     assert_eq!(rt;
         desk.open_in(In::Model, "kept"),
         Err(Failed),
@@ -142,5 +251,21 @@ fn the_machine_keeps_a_file(rt: HostRuntime) -> Result<(), Fail> {
     assert_eq!(rt; write_all(&mut desk, Out::Second, b"long text"), Ok(()));
     assert_eq!(rt; first_read(&mut desk, In::Model, "other")?, (6, *b"long t"));
     assert_eq!(rt; write_all(&mut desk, Out::Answer, b"printed\n"), Ok(()));
+=======
+    assert_eq!(rt; first_read(&mut desk, In::Model, "absent"), Err(Failed));
+    assert_eq!(rt; write_text(&mut desk, "kept", "hello"), Ok(()));
+    assert_eq!(rt;
+        first_read(&mut desk, In::Model, "kept"),
+        Ok((5, *b"hello\0"))
+    );
+    assert_eq!(rt; copy_once(&mut desk, "kept", "copy"), Ok(5));
+    assert_eq!(rt;
+        first_read(&mut desk, In::Log, "copy"),
+        Ok((5, *b"hello\0"))
+    );
+    assert_eq!(rt; write_all(&mut desk, Out::Answer, b"printed\n"), Ok(()));
+    fs::remove_file(&rt, "kept")?;
+    fs::remove_file(&rt, "copy")?;
+>>>>>>> 7adc60cf99b511c874da1f378dbdba0231367967
     Ok(())
 }

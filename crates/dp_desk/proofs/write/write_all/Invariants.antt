@@ -1,4 +1,4 @@
-use Rattle.std.proofs.Common.{◌≡◌, length, List, ℕ}
+use Rattle.std.proofs.Common.{◌≡◌, length}
 use Rattle.dp_desk.specs.Sight.{output, with_output}
 use Rattle.dp_desk.proofs.Writing.{Written}
 use Rattle.dp_desk.proofs.write.write_all.Given as goal
