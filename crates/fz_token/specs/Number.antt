@@ -48,8 +48,9 @@ radix_of s =
     if (slice_index s 0 == 48) && (slice_index s 1 == 120) then 16
     else (if (slice_index s 0 == 48) && (slice_index s 1 == 111) then 8 else 10)
 
-abbrev pub base_len : List ℕ → ℕ
-base_len s = if radix_of s == 10 then 0 else 2
+-- how long the name of the base is
+abbrev pub base_len : ℕ → ℕ
+base_len radix = if radix == 10 then 0 else 2
 
 abbrev pub signed : Bool → ℕ → ℤ
 signed negative n = if negative then neg_ℤ (pos n) else pos n
@@ -58,23 +59,24 @@ signed negative n = if negative then neg_ℤ (pos n) else pos n
 unfoldable pub integer : Bool → List ℕ → Option (ℤ × ℕ)
 integer negative s =
     let radix = radix_of s in
-    let len = digits_len radix (drop (base_len s) s) in
-    let value = digits_value radix (take len (drop (base_len s) s)) in
-    if (len == 0) || nat_lt limit value then None else Some (signed negative value, base_len s + len)
+    let base = base_len radix in
+    let len = digits_len radix (drop base s) in
+    let value = digits_value radix (take len (drop base s)) in
+    if (len == 0) || nat_lt limit value then None else Some (signed negative value, base + len)
 
 abbrev pub integer_token : ℕ → ℕ → Option (ℤ × ℕ) → Result Token TokenRefusal
-integer_token at sign None = Err (Number at)
-integer_token at sign (Some found) = Ok (record { kind = Integer found.0; start = at; end = at + sign + found.1 })
+integer_token start at None = Err (Number start)
+integer_token start at (Some found) = Ok (record { kind = Integer found.0; start = start; end = at + found.1 })
 
--- a number by the length of its sign and the rest
-abbrev pub unsigned_at : ℕ → Bool → ℕ → List ℕ → Result Token TokenRefusal
-unsigned_at at negative sign s =
+-- the number that begins at `start` and whose digits begin at `at`, where these bytes stand
+abbrev pub unsigned_at : Bool → ℕ → ℕ → List ℕ → Result Token TokenRefusal
+unsigned_at negative start at s =
     let whole = digits_len 10 s in
     let tail = float_tail_len (drop whole s) in
-    if whole == 0 then Err (BadByte at)
-    else (if nat_lt 0 tail then Ok (record { kind = Float; start = at; end = at + sign + whole + tail })
-    else integer_token at sign (integer negative s))
+    if whole == 0 then Err (BadByte start)
+    else (if nat_lt 0 tail then Ok (record { kind = Float; start = start; end = at + whole + tail })
+    else integer_token start at (integer negative s))
 
 -- the longest number that begins at `at`, where these bytes stand
 unfoldable pub number_at : ℕ → List ℕ → Result Token TokenRefusal
-number_at at s = if slice_index s 0 == 45 then unsigned_at at true 1 (drop 1 s) else unsigned_at at false 0 (drop 0 s)
+number_at at s = if slice_index s 0 == 45 then unsigned_at true at (at + 1) (drop 1 s) else unsigned_at false at at s

@@ -1,6 +1,6 @@
 //! Marks.
 
-ghost use Rattle.std.specs.Prelude.{◌≡◌, ◌≤◌, ◌<◌, ◌+◌, ◌^◌, length, slice_index, slice_get};
+ghost use Rattle.std.specs.Prelude.{◌≡◌, ◌≤◌, ◌<◌, ◌+◌, ◌^◌, length, IfOk, slice_index, slice_get};
 ghost use Rattle.fz_token.specs.Mark as spec;
 
 use crate::{Mark, Token, TokenKind, TokenRefusal};
@@ -39,7 +39,8 @@ fn double(first: u8, second: u8) -> Option<Mark>
 pub fn mark_at(text: &[u8], at: usize) -> Result<Token, TokenRefusal>
     requires nonempty { 0 < length text.now }
     requires room { at + length text.now < 2 ^ 64 }
-    ensures { result ≡ spec.mark_at at text.now }
+    ensures value { result ≡ spec.mark_at at text.now }
+    ensures within { IfOk result (λ token. (at < token.end) × (token.end ≤ at + length text.now)) }
 {
     if text.len() > 1 && let Some(mark) = double(text[0], text[1]) {
         return Ok(Token { kind: TokenKind::Mark(mark), start: at, end: at + 2 });

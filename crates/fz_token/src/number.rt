@@ -1,6 +1,6 @@
 //! Integers and floats.
 
-ghost use Rattle.std.specs.Prelude.{◌≡◌, ◌≤◌, ◌<◌, ◌+◌, ◌^◌, length, drop, IfSome, SomeIff};
+ghost use Rattle.std.specs.Prelude.{◌≡◌, ◌≤◌, ◌<◌, ◌+◌, ◌^◌, length, IfSome, IfOk, SomeIff};
 ghost use Rattle.std.specs.Char.{digit_value};
 ghost use Rattle.std.specs.Str.Parse.{digits_value};
 ghost use Rattle.fz_token.specs.Number as spec;
@@ -24,7 +24,8 @@ fn digit_value(byte: u8) -> u64
 
 /// How many digits of the base `radix` stand at the front of `text`.
 fn digits_len(text: &[u8], radix: u64) -> usize
-    ensures { result ≡ spec.digits_len radix text.now }
+    ensures value { result ≡ spec.digits_len radix text.now }
+    ensures within { result ≤ length text.now }
 {
     text.iter()
         .take_while(|byte| digit_value(**byte) < radix)
@@ -33,7 +34,8 @@ fn digits_len(text: &[u8], radix: u64) -> usize
 
 /// How long the fraction at the front of `text` is, a `.` and digits; 0 where there is none.
 fn fraction_len(text: &[u8]) -> usize
-    ensures { result ≡ spec.fraction_len text.now }
+    ensures value { result ≡ spec.fraction_len text.now }
+    ensures within { result ≤ length text.now }
 {
     let [b'.', rest @ ..] = text else {
         return 0;
@@ -46,7 +48,8 @@ fn fraction_len(text: &[u8]) -> usize
 
 /// How long the exponent at the front of `text` is, an `e` or `E`, perhaps a sign, and digits; 0 where there is none.
 fn exponent_len(text: &[u8]) -> usize
-    ensures { result ≡ spec.exponent_len text.now }
+    ensures value { result ≡ spec.exponent_len text.now }
+    ensures within { result ≤ length text.now }
 {
     let [b'e' | b'E', rest @ ..] = text else {
         return 0;
@@ -63,7 +66,8 @@ fn exponent_len(text: &[u8]) -> usize
 
 /// How long the fraction and exponent are that follow the digits of a float; 0 where neither is there.
 fn float_tail_len(text: &[u8]) -> usize
-    ensures { result ≡ spec.float_tail_len text.now }
+    ensures value { result ≡ spec.float_tail_len text.now }
+    ensures within { result ≤ length text.now }
 {
     let fraction = fraction_len(text);
     fraction + exponent_len(&text[fraction..])
@@ -71,7 +75,8 @@ fn float_tail_len(text: &[u8]) -> usize
 
 /// The base that the front of an integer names.
 fn radix_of(text: &[u8]) -> u64
-    ensures { result ≡ spec.radix_of text.now }
+    ensures value { result ≡ spec.radix_of text.now }
+    ensures bound { (8 ≤ result) × (result ≤ 16) }
 {
     match text {
         [b'0', b'x', ..] => 16,
@@ -82,7 +87,7 @@ fn radix_of(text: &[u8]) -> u64
 
 /// The number that these digits spell, where it keeps to the limit.
 fn magnitude(digits: &[u8], radix: u64) -> Option<u64>
-    requires { radix ≤ 16 }
+    requires { (0 < radix) × (radix ≤ 16) }
     ensures { SomeIff result (digits_value radix digits.now ≤ spec.limit) (digits_value radix digits.now) }
 {
     let mut value: u64 = 0;
@@ -95,41 +100,77 @@ fn magnitude(digits: &[u8], radix: u64) -> Option<u64>
     Some(value)
 }
 
+/// How long the name of the base is in front of its digits.
+fn base_len(radix: u64) -> usize
+    ensures { result ≡ spec.base_len radix }
+{
+    if radix == 10 { 0 } else { 2 }
+}
+
+fn signed(negative: bool, magnitude: u64) -> i64
+    requires { magnitude ≤ spec.limit }
+    ensures { result ≡ spec.signed negative magnitude }
+{
+    let value = magnitude as i64;
+    if negative { -value } else { value }
+}
+
 /// The integer at the front of `text`, which follows its sign: its value, and how long it is without the sign.
+/// There is none where it has no digits or is beyond the limit.
+#[tactic(auto, unfolding(crate::specs::Number::integer))]
 fn integer(text: &[u8], negative: bool) -> Option<(i64, usize)>
     ensures value { result ≡ spec.integer negative text.now }
-    ensures within { IfSome result (λ found. found.1 ≤ length text.now) }
+    ensures within { IfSome result (λ found. (0 < found.1) × (found.1 ≤ length text.now)) }
 {
     let radix = radix_of(text);
-    let prefix = if radix == 10 { 0 } else { 2 };
-    let digits = &text[prefix..];
-    let len = digits_len(digits, radix);
+    let base = base_len(radix);
+    let (_, rest) = text.split_at(base);
+    let len = digits_len(rest, radix);
     if len == 0 {
         return None;
     }
-    let value = magnitude(&digits[..len], radix)? as i64;
-    Some((if negative { -value } else { value }, prefix + len))
+    let (digits, _) = rest.split_at(len);
+    let magnitude = magnitude(digits, radix)?;
+    Some((signed(negative, magnitude), base + len))
+}
+
+/// The number that begins at the place `start` and whose digits stand at `at`, at the front of `text`.
+fn unsigned_at(
+    text: &[u8],
+    negative: bool,
+    start: usize,
+    at: usize,
+) -> Result<Token, TokenRefusal>
+    requires order { start ≤ at }
+    requires room { at + length text.now < 2 ^ 64 }
+    ensures value { result ≡ spec.unsigned_at negative start at text.now }
+    ensures within { IfOk result (λ token. (start < token.end) × (token.end ≤ at + length text.now)) }
+{
+    let whole = digits_len(text, 10);
+    if whole == 0 {
+        return Err(TokenRefusal::BadByte(start));
+    }
+    let (_, rest) = text.split_at(whole);
+    let tail = float_tail_len(rest);
+    if tail > 0 {
+        let end = at + whole + tail;
+        return Ok(Token { kind: TokenKind::Float, start, end });
+    }
+    match integer(text, negative) {
+        Some((value, len)) => Ok(Token { kind: TokenKind::Integer(value), start, end: at + len }),
+        None => Err(TokenRefusal::Number(start)),
+    }
 }
 
 /// The number at the front of `text`, which stands at the place `at` and begins with a digit or `-`.
+#[tactic(auto, unfolding(crate::specs::Number::number_at))]
 pub fn number_at(text: &[u8], at: usize) -> Result<Token, TokenRefusal>
-    requires nonempty { 0 < length text.now }
     requires room { at + length text.now < 2 ^ 64 }
-    ensures { result ≡ spec.number_at at text.now }
+    ensures value { result ≡ spec.number_at at text.now }
+    ensures within { IfOk result (λ token. (at < token.end) × (token.end ≤ at + length text.now)) }
 {
-    let negative = text[0] == b'-';
-    let sign = usize::from(negative);
-    let unsigned = &text[sign..];
-    let whole = digits_len(unsigned, 10);
-    if whole == 0 {
-        return Err(TokenRefusal::BadByte(at));
-    }
-    let tail = float_tail_len(&unsigned[whole..]);
-    if tail > 0 {
-        return Ok(Token { kind: TokenKind::Float, start: at, end: at + sign + whole + tail });
-    }
-    match integer(unsigned, negative) {
-        Some((value, len)) => Ok(Token { kind: TokenKind::Integer(value), start: at, end: at + sign + len }),
-        None => Err(TokenRefusal::Number(at)),
+    match text {
+        [b'-', rest @ ..] => unsigned_at(rest, true, at, at + 1),
+        _ => unsigned_at(text, false, at, at),
     }
 }

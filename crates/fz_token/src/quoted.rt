@@ -1,6 +1,6 @@
 //! Strings.
 
-ghost use Rattle.std.specs.Prelude.{◌≡◌, ◌≤◌, ◌<◌, ◌+◌, ◌^◌, length, drop, IfSome, true, false};
+ghost use Rattle.std.specs.Prelude.{◌≡◌, ◌≤◌, ◌<◌, ◌+◌, ◌^◌, length, IfOk, drop, IfSome, true, false};
 ghost use Rattle.fz_token.specs.Quoted as spec;
 
 use crate::{Token, TokenKind, TokenRefusal};
@@ -27,7 +27,8 @@ fn closed_len(body: &[u8]) -> Option<usize>
 pub fn quoted_at(text: &[u8], at: usize) -> Result<Token, TokenRefusal>
     requires nonempty { 0 < length text.now }
     requires room { at + length text.now < 2 ^ 64 }
-    ensures { result ≡ spec.quoted_at at text.now }
+    ensures value { result ≡ spec.quoted_at at text.now }
+    ensures within { IfOk result (λ token. (at < token.end) × (token.end ≤ at + length text.now)) }
 {
     match closed_len(&text[1..]) {
         Some(len) => Ok(Token { kind: TokenKind::Quoted, start: at, end: at + 1 + len }),

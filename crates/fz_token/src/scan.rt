@@ -10,6 +10,7 @@ use crate::word::word_at;
 use crate::{Token, TokenRefusal};
 
 /// The token at the front of `text`, which stands at the place `at`.
+#[tactic(auto, unfolding(crate::specs::Token::token_at))]
 pub fn token_at(text: &[u8], at: usize) -> Result<Token, TokenRefusal>
     requires nonempty { 0 < length text.now }
     requires room { at + length text.now < 2 ^ 64 }

@@ -49,6 +49,7 @@ impl Keyword {
     }
 
     /// The keyword that is spelled so, if there is one.
+    #[tactic(auto, unfolding(crate::specs::Word::keyword_of))]
     pub fn spelled(word: &[u8]) -> Option<Keyword>
         ensures { result ≡ spec.keyword_of word.now }
     {
@@ -67,7 +68,8 @@ fn is_word_byte(byte: u8) -> bool
 
 /// How many letters, digits and `_` stand at the front of `text`.
 fn word_len(text: &[u8]) -> usize
-    ensures { result ≡ spec.word_len text.now }
+    ensures value { result ≡ spec.word_len text.now }
+    ensures within { result ≤ length text.now }
 {
     text.iter().take_while(|byte| is_word_byte(**byte)).count()
 }
@@ -75,7 +77,8 @@ fn word_len(text: &[u8]) -> usize
 /// The name or keyword at the front of `text`, which stands at the place `at`.
 pub fn word_at(text: &[u8], at: usize) -> Token
     requires room { at + length text.now < 2 ^ 64 }
-    ensures { result ≡ spec.word_at at text.now }
+    ensures value { result ≡ spec.word_at at text.now }
+    ensures within { result.end ≤ at + length text.now }
 {
     let len = word_len(text);
     let kind = match Keyword::spelled(&text[..len]) {
