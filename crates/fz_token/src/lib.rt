@@ -126,7 +126,7 @@ impl<'a> Model for Tokens<'a> {
 }
 
 impl<'a> Tokens<'a> {
-    ghost use Rattle.fz_token.specs.Stream.{next_of, place_after};
+    ghost use Rattle.fz_token.specs.Stream.{next_of, place_after, stream_at, before};
 
     /// The tokens from the first byte of `text` on.
     pub fn new(text: &'a [u8]) -> Tokens<'a>
@@ -140,15 +140,14 @@ impl<'a> Tokens<'a> {
     /// The time it takes is in proportion to the bytes up to the token's end.
     pub fn next(&mut self) -> Result<Option<Token>, TokenRefusal>
         ensures answer { result ≡ next_of self.old }
+        ensures stream { stream_at self.old ≡ before result (stream_at self.new) }
         ensures text { self.new.text ≡ self.old.text }
         ensures place { self.new.at ≡ place_after result self.old.at }
     {
-        let start = gap::gap_end(self.text, self.at);
-        if start == self.text.len() {
-            return Ok(None);
+        let next = scan::next_token(self.text, self.at)?;
+        if let Some(token) = next {
+            self.at = token.end;
         }
-        let token = scan::token_at(&self.text[start..], start)?;
-        self.at = token.end;
-        Ok(Some(token))
+        Ok(next)
     }
 }

@@ -1,8 +1,10 @@
-//! The token at the front of a text.
+//! The next token of a text.
 
-ghost use Rattle.std.specs.Prelude.{◌≡◌, ◌≤◌, ◌<◌, ◌+◌, ◌^◌, length, IfOk};
+ghost use Rattle.std.specs.Prelude.{◌≡◌, ◌≤◌, ◌<◌, ◌+◌, ◌^◌, length, IfOk, IfSome};
+ghost use Rattle.fz_token.specs.Stream.{next_of, stream_at, before, place_after};
 ghost use Rattle.fz_token.specs.Token as spec;
 
+use crate::gap::gap_end;
 use crate::marks::mark_at;
 use crate::number::number_at;
 use crate::quoted::quoted_at;
@@ -23,4 +25,20 @@ pub fn token_at(text: &[u8], at: usize) -> Result<Token, TokenRefusal>
         b'"' => quoted_at(text, at),
         _ => mark_at(text, at),
     }
+}
+
+/// The next token from the place `at` on, if one is left.
+pub fn next_token(text: &[u8], at: usize) -> Result<Option<Token>, TokenRefusal>
+    requires { at ≤ length text.now }
+    ensures answer { result ≡ next_of (record { text = text.now; at = at }) }
+    ensures stream { stream_at (record { text = text.now; at = at })
+        ≡ before result (stream_at (record { text = text.now; at = place_after result at })) }
+    ensures within { IfOk result (λ next. IfSome next (λ token. (at < token.end) × (token.end ≤ length text.now))) }
+{
+    let start = gap_end(text, at);
+    if start == text.len() {
+        return Ok(None);
+    }
+    let (_, rest) = text.split_at(start);
+    token_at(rest, start).map(Some)
 }

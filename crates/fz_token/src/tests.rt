@@ -176,14 +176,42 @@ fn check(rt: &impl Abort, rows: &[Row]) {
 }
 
 #[test]
-fn tokens_of_each_form(rt: HostRuntime) {
+fn blanks_and_comments(rt: HostRuntime) {
     check(&rt, &GAPS);
+}
+
+#[test]
+fn words(rt: HostRuntime) {
     check(&rt, &WORDS);
+}
+
+#[test]
+fn integers(rt: HostRuntime) {
     check(&rt, &INTEGERS);
+}
+
+#[test]
+fn integers_beyond_the_limit(rt: HostRuntime) {
     check(&rt, &TOO_LARGE);
+}
+
+#[test]
+fn floats_and_ranges(rt: HostRuntime) {
     check(&rt, &FLOATS);
+}
+
+#[test]
+fn strings(rt: HostRuntime) {
     check(&rt, &STRINGS);
+}
+
+#[test]
+fn marks_and_other_bytes(rt: HostRuntime) {
     check(&rt, &MARKS);
+}
+
+#[test]
+fn items(rt: HostRuntime) {
     check(&rt, &ITEMS);
 }
 
