@@ -1,3 +1,4 @@
+pub mod Forms
 pub mod Gap
 pub mod Mark
 pub mod Number
