@@ -151,3 +151,8 @@ pub lacks_class : (s : List ℕ) → LacksDigits s → class_of (get_or s 0 0) �
 lacks_class s h = signed_class s (elim h [
     inl x ↦ subst (λ v. is_digit (get_or v 0 0) 10 ≡ true) (sym x.spelled) refl
   | inr y ↦ subst (λ v. is_digit (get_or v 0 0) 10 ≡ true) (sym y.spelled) refl ])
+
+-- no form is empty
+pub front_some : (s : List ℕ) (n : ℕ) (k : TokenKind) → Spells k (take n s) → 0 < n
+front_some s zero k h = absurd (no_kind k (sym others_class ∙ spells_class k [] h))
+front_some s (suc n) k h = omega arith

@@ -149,7 +149,7 @@ pub record Tail (t : List ℕ) : Type 0 where
   pub within : float_tail_len t ≤ length t
   pub is_tail : IsTail fraction exponent
 
-zero_or_some : (n : ℕ) → (n ≡ 0) ⊎ (0 < n)
+pub zero_or_some : (n : ℕ) → (n ≡ 0) ⊎ (0 < n)
 zero_or_some zero = inl refl
 zero_or_some (suc n) = inr (omega arith)
 
