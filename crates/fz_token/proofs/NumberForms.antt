@@ -6,14 +6,14 @@ use Rattle.std.specs.List.{AllPass, prefix_len}
 use Rattle.std.specs.Str.Parse.{digits_value}
 use Rattle.std.proofs.lemmas.List.{append_assoc, drop_at, length-append, length-take-le, length-drop, take-append-drop}
 use Rattle.std.proofs.lemmas.List.Sums.{prefix_len-le-length}
-use Rattle.std.proofs.lemmas.Bool.{cases_Bool, eqb-true, ne_eqb, lt-ltb, le-ltb, ltb-true, ltb-false}
+use Rattle.std.proofs.lemmas.Bool.{cases_Bool, eqb-true, eq-eqb, ne_eqb, lt-ltb, le-ltb, ltb-true, ltb-false}
 use Rattle.fz_token.specs.Forms.{Spells, Says, Stands, IsToken, IsTooLarge, IsInteger, IsFloat, IsNatural, IsDigits, LacksDigits, NothingStands, unsigned, is_negative}
 use Rattle.fz_token.specs.Number.{limit, digits_len, float_tail_len, radix_of, base_len, signed, integer, integer_token, unsigned_at, number_at}
 use Rattle.fz_token.specs.declared.TokenKind.{TokenKind}
 use Rattle.fz_token.specs.declared.TokenKind.TheVariants as kind
 use Rattle.fz_token.proofs.Classes.{Class, Words, Numbers, Quotes, Marks, class_of, front_class, front_some, first_digit, natural_first}
 use Rattle.fz_token.proofs.FloatRuns.{digits_form, tail_form, tail_part, zero_or_some}
-use Rattle.fz_token.proofs.NaturalRuns.{NaturalRun, Named, named_cases, hex_run, oct_run, dec_run}
+use Rattle.fz_token.proofs.NaturalRuns.{NaturalRun, Named, named_cases, named_hex, named_oct, hex_run, oct_run, dec_run}
 use Rattle.fz_token.proofs.Runs.{take_add, run_before}
 
 -- ---- a number and its sign
@@ -189,3 +189,182 @@ float_token start sign at negative s u g c place some tail =
         inl hex ↦ omega (arith, hex_tail u hex)
       | inr oct ↦ omega (arith, oct_tail u oct) ];
     }
+
+-- ---- integers
+
+nat_abs-signed : (negative : Bool) (n : ℕ) → nat_abs (signed negative n) ≡ n
+nat_abs-signed false n = refl
+nat_abs-signed true zero = refl
+nat_abs-signed true (suc n) = refl
+
+-- an integer where the base is known
+integer_in : Bool → List ℕ → ℕ → Option (ℤ × ℕ)
+integer_in negative u radix =
+    let base = base_len radix in
+    let len = digits_len radix (drop base u) in
+    let value = digits_value radix (take len (drop base u)) in
+    cond (eqb len 0 || nat_lt limit value) None (Some (signed negative value, base + len))
+
+integer-known : (negative : Bool) (u : List ℕ) (radix : ℕ) → radix_of u ≡ radix → integer negative u ≡ integer_in negative u radix
+unfolding integer integer_in
+integer-known negative u radix e = ap (integer_in negative u) e
+
+-- no digits: no integer
+integer-none : (negative : Bool) (u : List ℕ) (radix : ℕ) → digits_len radix (drop (base_len radix) u) ≡ 0 → integer_in negative u radix ≡ None
+unfolding integer_in
+integer-none negative u radix e = rw e refl
+
+-- with digits, the limit decides
+abbrev limited : Bool → ℕ → ℕ → Option (ℤ × ℕ)
+limited negative value size = cond (nat_lt limit value) None (Some (signed negative value, size))
+
+integer-some : (negative : Bool) (u : List ℕ) (radix : ℕ) → 0 < digits_len radix (drop (base_len radix) u) →
+    integer_in negative u radix ≡ limited negative (digits_value radix (take (digits_len radix (drop (base_len radix) u)) (drop (base_len radix) u))) (base_len radix + digits_len radix (drop (base_len radix) u))
+unfolding integer_in
+integer-some negative u radix some =
+    let e : eqb (digits_len radix (drop (base_len radix) u)) 0 ≡ false = ne_eqb (digits_len radix (drop (base_len radix) u)) 0 (λ z. omega arith) in
+    rw e refl
+
+integer_stands : (start sign : ℕ) (negative : Bool) (s u : List ℕ) (size value : ℕ) → Signed s u sign negative → class_of (get_or s 0 0) ≡ Numbers →
+    float_tail_len (drop (digits_len 10 u) u) ≡ 0 → NaturalRun u size value → Stands s (kind.Integer (signed negative value)) (sign + size)
+integer_stands start sign negative s u size value g c tail run =
+    let whole : length s ≡ sign + length u = g.size in
+    let inside : size ≤ length u = run.within in
+    record {
+      within = omega arith;
+      spelled = record {
+        magnitude = value;
+        is_natural = subst (λ l. IsNatural l value) (sym (g.front size)) run.form;
+        is_signed = ap (λ b. signed b value) (sym (g.minus size));
+      };
+      longest = λ n k within h.
+        let r = front_of s u sign n negative g (front_some s n k h) within in
+        let e : n ≡ sign + r.m = r.size in
+        elim (only_number s n k c h) [
+          inl i ↦ (let bound : r.m ≤ size = run.longest r.m i.1.magnitude r.within (subst (λ l. IsNatural l i.1.magnitude) r.unsigned_is i.1.is_natural) in omega arith)
+        | inr x ↦ (let some = float_front u (take n s) r.m r.within r.unsigned_is x in absurd (omega (arith, some.1))) ];
+    }
+
+limited_says : (start sign at : ℕ) (negative : Bool) (s u : List ℕ) (size value : ℕ) → Signed s u sign negative → class_of (get_or s 0 0) ≡ Numbers →
+    at ≡ start + sign → float_tail_len (drop (digits_len 10 u) u) ≡ 0 → NaturalRun u size value → (LacksDigits s → ⊥) →
+    (over : Bool) → nat_lt limit value ≡ over → Says start s (integer_token start at (cond over None (Some (signed negative value, size))))
+limited_says start sign at negative s u size value g c place tail run has true e =
+    (refl, inr (record {
+      value = signed negative value;
+      len = sign + size;
+      stands = integer_stands start sign negative s u size value g c tail run;
+      beyond = subst (λ n. limit < n) (sym (nat_abs-signed negative value)) (ltb-true limit value e);
+    }))
+limited_says start sign at negative s u size value g c place tail run has false e =
+    record {
+      len = sign + size;
+      starts = refl;
+      ends = omega arith;
+      stands = integer_stands start sign negative s u size value g c tail run;
+      keeps_limit = subst (λ n. n ≤ limit) (sym (nat_abs-signed negative value)) (ltb-false limit value e);
+      has_digits = has;
+    }
+
+known_says : (start sign at : ℕ) (negative : Bool) (s u : List ℕ) (size value : ℕ) → Signed s u sign negative → class_of (get_or s 0 0) ≡ Numbers →
+    at ≡ start + sign → float_tail_len (drop (digits_len 10 u) u) ≡ 0 → NaturalRun u size value → (LacksDigits s → ⊥) →
+    integer negative u ≡ limited negative value size → Says start s (integer_token start at (integer negative u))
+known_says start sign at negative s u size value g c place tail run has e =
+    subst (λ o. Says start s (integer_token start at o)) (sym e) (limited_says start sign at negative s u size value g c place tail run has (nat_lt limit value) refl)
+
+lacking_says : (start at : ℕ) (negative : Bool) (s u : List ℕ) → LacksDigits s → integer negative u ≡ None → Says start s (integer_token start at (integer negative u))
+lacking_says start at negative s u lacks e = subst (λ o. Says start s (integer_token start at o)) (sym e) (refl, inl lacks)
+
+-- a base that is named, and whether a digit follows
+no_digit_first : (radix : ℕ) (rest : List ℕ) → is_digit 0 radix ≡ false → digits_len radix rest ≡ 0 → is_digit (get_or rest 0 0) radix ≡ false
+no_digit_first radix [] z h = z
+no_digit_first radix (b ∷ rest) z h = elim (cases_Bool (is_digit b radix)) [
+    inl digit ↦ (let some : digits_len radix (b ∷ rest) ≡ 1 + digits_len radix rest = rw digit refl in absurd (omega arith))
+  | inr none ↦ none ]
+
+no_digits_after : (radix : ℕ) (rest : List ℕ) → is_digit (get_or rest 0 0) radix ≡ false → digits_len radix rest ≡ 0
+no_digits_after radix [] h = refl
+no_digits_after radix (b ∷ rest) h = rw h refl
+
+second_is : (x y : ℕ) (r t : List ℕ) → 48 ∷ x ∷ r ≡ 48 ∷ y ∷ t → x ≡ y
+second_is x y r t h = cc
+
+rest_is : (x y : ℕ) (r t : List ℕ) → 48 ∷ x ∷ r ≡ 48 ∷ y ∷ t → r ≡ t
+rest_is x y r t h = cc
+
+hex_has : (s rest : List ℕ) → unsigned s ≡ 48 ∷ 120 ∷ rest → 0 < digits_len 16 rest → LacksDigits s → ⊥
+hex_has s rest e some lacks = elim lacks [
+    inl x ↦ (let same : x.rest ≡ rest = rest_is 120 120 x.rest rest (sym x.spelled ∙ e) in
+      omega (arith, no_digits_after 16 rest (subst (λ l. is_digit (get_or l 0 0) 16 ≡ false) same x.no_digit)))
+  | inr y ↦ omega (arith, second_is 111 120 y.rest rest (sym y.spelled ∙ e)) ]
+
+oct_has : (s rest : List ℕ) → unsigned s ≡ 48 ∷ 111 ∷ rest → 0 < digits_len 8 rest → LacksDigits s → ⊥
+oct_has s rest e some lacks = elim lacks [
+    inl x ↦ omega (arith, second_is 120 111 x.rest rest (sym x.spelled ∙ e))
+  | inr y ↦ (let same : y.rest ≡ rest = rest_is 111 111 y.rest rest (sym y.spelled ∙ e) in
+      omega (arith, no_digits_after 8 rest (subst (λ l. is_digit (get_or l 0 0) 8 ≡ false) same y.no_digit))) ]
+
+dec_has : (s u : List ℕ) → unsigned s ≡ u → radix_of u ≡ 10 → LacksDigits s → ⊥
+dec_has s u e plain lacks = elim (lacks_named s u e lacks) [
+    inl hex ↦ omega (arith, named_hex u hex)
+  | inr oct ↦ omega (arith, named_oct u oct) ]
+
+hex_says : (start sign at : ℕ) (negative : Bool) (s rest : List ℕ) → Signed s (48 ∷ 120 ∷ rest) sign negative → class_of (get_or s 0 0) ≡ Numbers → at ≡ start + sign →
+    Says start s (integer_token start at (integer negative (48 ∷ 120 ∷ rest)))
+hex_says start sign at negative s rest g c place = elim (zero_or_some (digits_len 16 rest)) [
+    inl none ↦ lacking_says start at negative s (48 ∷ 120 ∷ rest)
+      (inl (record { rest = rest; spelled = g.whole; no_digit = no_digit_first 16 rest refl none }))
+      (integer-known negative (48 ∷ 120 ∷ rest) 16 refl ∙ integer-none negative (48 ∷ 120 ∷ rest) 16 none)
+  | inr some ↦ known_says start sign at negative s (48 ∷ 120 ∷ rest) (2 + digits_len 16 rest) (digits_value 16 (take (digits_len 16 rest) rest)) g c place refl
+      (hex_run rest some) (hex_has s rest g.whole some)
+      (integer-known negative (48 ∷ 120 ∷ rest) 16 refl ∙ integer-some negative (48 ∷ 120 ∷ rest) 16 some) ]
+
+oct_says : (start sign at : ℕ) (negative : Bool) (s rest : List ℕ) → Signed s (48 ∷ 111 ∷ rest) sign negative → class_of (get_or s 0 0) ≡ Numbers → at ≡ start + sign →
+    Says start s (integer_token start at (integer negative (48 ∷ 111 ∷ rest)))
+oct_says start sign at negative s rest g c place = elim (zero_or_some (digits_len 8 rest)) [
+    inl none ↦ lacking_says start at negative s (48 ∷ 111 ∷ rest)
+      (inr (record { rest = rest; spelled = g.whole; no_digit = no_digit_first 8 rest refl none }))
+      (integer-known negative (48 ∷ 111 ∷ rest) 8 refl ∙ integer-none negative (48 ∷ 111 ∷ rest) 8 none)
+  | inr some ↦ known_says start sign at negative s (48 ∷ 111 ∷ rest) (2 + digits_len 8 rest) (digits_value 8 (take (digits_len 8 rest) rest)) g c place refl
+      (oct_run rest some) (oct_has s rest g.whole some)
+      (integer-known negative (48 ∷ 111 ∷ rest) 8 refl ∙ integer-some negative (48 ∷ 111 ∷ rest) 8 some) ]
+
+dec_says : (start sign at : ℕ) (negative : Bool) (s u : List ℕ) → Signed s u sign negative → class_of (get_or s 0 0) ≡ Numbers → at ≡ start + sign →
+    0 < digits_len 10 u → float_tail_len (drop (digits_len 10 u) u) ≡ 0 → radix_of u ≡ 10 →
+    Says start s (integer_token start at (integer negative u))
+dec_says start sign at negative s u g c place some tail plain =
+    known_says start sign at negative s u (0 + digits_len 10 u) (digits_value 10 (take (digits_len 10 u) u)) g c place tail
+      (dec_run u plain some) (dec_has s u g.whole plain)
+      (integer-known negative u 10 plain ∙ integer-some negative u 10 some)
+
+integer_says : (start sign at : ℕ) (negative : Bool) (s u : List ℕ) → Signed s u sign negative → class_of (get_or s 0 0) ≡ Numbers → at ≡ start + sign →
+    0 < digits_len 10 u → float_tail_len (drop (digits_len 10 u) u) ≡ 0 → Says start s (integer_token start at (integer negative u))
+integer_says start sign at negative s u g c place some tail = elim (named_cases u) [
+    inl hex ↦ subst (λ v. Signed s v sign negative → Says start s (integer_token start at (integer negative v))) (sym hex.is)
+      (λ h. hex_says start sign at negative s hex.rest h c place) g
+  | inr o ↦ elim o [
+      inl oct ↦ subst (λ v. Signed s v sign negative → Says start s (integer_token start at (integer negative v))) (sym oct.is)
+        (λ h. oct_says start sign at negative s oct.rest h c place) g
+    | inr plain ↦ dec_says start sign at negative s u g c place some tail plain ] ]
+
+-- ---- a number
+
+unsigned_says : (start sign at : ℕ) (negative : Bool) (s u : List ℕ) → Signed s u sign negative → class_of (get_or s 0 0) ≡ Numbers → at ≡ start + sign →
+    Says start s (unsigned_at negative start at u)
+unsigned_says start sign at negative s u g c place = elim (zero_or_some (digits_len 10 u)) [
+    inl none ↦ (let bare : eqb (digits_len 10 u) 0 ≡ true = eq-eqb (digits_len 10 u) 0 none in
+      let b = bare_says start sign negative s u g c none in rw bare (refl, b.0, b.1))
+  | inr some ↦
+      (let digits : eqb (digits_len 10 u) 0 ≡ false = ne_eqb (digits_len 10 u) 0 (λ z. omega arith) in
+       elim (zero_or_some (float_tail_len (drop (digits_len 10 u) u))) [
+         inl none ↦ (let no_tail : ltb 0 (float_tail_len (drop (digits_len 10 u) u)) ≡ false = le-ltb 0 (float_tail_len (drop (digits_len 10 u) u)) (omega arith) in
+           rw (digits, no_tail) (integer_says start sign at negative s u g c place some none))
+       | inr tail ↦ (let a_tail : ltb 0 (float_tail_len (drop (digits_len 10 u) u)) ≡ true = lt-ltb 0 (float_tail_len (drop (digits_len 10 u) u)) tail in
+           rw (digits, a_tail) (float_token start sign at negative s u g c place some tail)) ]) ]
+
+-- where a digit or `-` stands in front, the number there is the answer, or why there is none
+pub number_says : (at : ℕ) (s : List ℕ) → class_of (get_or s 0 0) ≡ Numbers → Says at s (number_at at s)
+unfolding number_at
+number_says at [] c = (unsigned_says at 0 at false [] [] (without_sign [] refl) c (omega arith))
+number_says at (b ∷ u) c = elim (cases_Bool (eqb b 45)) [
+    inl minus ↦ rw minus (unsigned_says at 1 (at + 1) true (b ∷ u) u (subst (λ v. Signed (v ∷ u) u 1 true) (sym (eqb-true b 45 minus)) (with_minus u)) c refl)
+  | inr plain ↦ rw plain (unsigned_says at 0 at false (b ∷ u) (b ∷ u) (without_sign (b ∷ u) plain) c (omega arith)) ]
