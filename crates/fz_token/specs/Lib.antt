@@ -1,6 +1,7 @@
 pub mod Forms
 pub mod Gap
 pub mod Mark
+pub mod Next
 pub mod Number
 pub mod Quoted
 pub mod Reading
