@@ -2,6 +2,7 @@
 use Rattle.std.specs.Prelude.{◌≡◌, ℕ, ◌+◌, ◌-◌, ◌<◌, ◌≤◌, List, length, take, drop, Option, Some, None, Result, Ok, Err}
 use Rattle.fz_token.specs.Forms.{Says}
 use Rattle.fz_token.specs.Gap.{IsGap}
+use Rattle.fz_token.specs.Reading.{Reading}
 use Rattle.fz_token.specs.declared.Token.{Token}
 use Rattle.fz_token.specs.declared.TokenRefusal.{TokenRefusal}
 
@@ -18,8 +19,8 @@ SaysAt start text (Ok None) = start ≡ length text
 SaysAt start text (Ok (Some token)) = (start < length text) × Says start (drop start text) (Ok token)
 SaysAt start text (Err refusal) = (start < length text) × Says start (drop start text) (Err refusal)
 
--- the answer behind the blanks and comments from `at` on
-pub record IsNext (text : List ℕ) (at : ℕ) (answer : Result (Option Token) TokenRefusal) : Type 0 where
+-- the answer behind the blanks and comments that stand at the place
+pub record IsNext (r : Reading) (answer : Result (Option Token) TokenRefusal) : Type 0 where
   pub start : ℕ
-  pub ends_gap : EndsGap text at start
-  pub says : SaysAt start text answer
+  pub ends_gap : EndsGap r.text r.at start
+  pub says : SaysAt start r.text answer

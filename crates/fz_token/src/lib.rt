@@ -126,12 +126,13 @@ impl<'a> Model for Tokens<'a> {
 }
 
 impl<'a> Tokens<'a> {
+    ghost use Rattle.std.specs.Prelude.{◌<◌, IfOk, IfSome};
+    ghost use Rattle.fz_token.specs.Next.{IsNext};
     ghost use Rattle.fz_token.specs.Stream.{next_of, place_after, stream_at, before};
 
     /// The tokens from the first byte of `text` on.
     pub fn new(text: &'a [u8]) -> Tokens<'a>
-        ensures text { result.text ≡ text.entry.now }
-        ensures at { result.at ≡ 0 }
+        ensures { result ≡ record { text = text.entry.now; at = 0 } }
     {
         Tokens { text, at: 0 }
     }
@@ -140,9 +141,15 @@ impl<'a> Tokens<'a> {
     /// The time it takes is in proportion to the bytes up to the token's end.
     pub fn next(&mut self) -> Result<Option<Token>, TokenRefusal>
         ensures answer { result ≡ next_of self.old }
+        ensures place { self.new ≡ record self.old { at = place_after result self.old.at } }
+
+        // The same answer in the words of the table of forms, and for all tokens at once.
+        ensures table { IsNext self.old result }
         ensures stream { stream_at self.old ≡ before result (stream_at self.new) }
-        ensures text { self.new.text ≡ self.old.text }
-        ensures place { self.new.at ≡ place_after result self.old.at }
+
+        // So a text is used up.
+        ensures progress { IfOk result (λ next. IfSome next (λ token.
+            (self.old.at < token.end) × (token.end ≤ length self.old.text))) }
     {
         let next = scan::next_token(self.text, self.at)?;
         if let Some(token) = next {

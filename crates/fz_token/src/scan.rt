@@ -1,6 +1,7 @@
 //! The next token of a text.
 
 ghost use Rattle.std.specs.Prelude.{◌≡◌, ◌≤◌, ◌<◌, ◌+◌, ◌^◌, length, IfOk, IfSome};
+ghost use Rattle.fz_token.specs.Next.{IsNext};
 ghost use Rattle.fz_token.specs.Stream.{next_of, stream_at, before, place_after};
 ghost use Rattle.fz_token.specs.Token as spec;
 
@@ -33,6 +34,7 @@ pub fn next_token(text: &[u8], at: usize) -> Result<Option<Token>, TokenRefusal>
     ensures answer { result ≡ next_of (record { text = text.now; at = at }) }
     ensures stream { stream_at (record { text = text.now; at = at })
         ≡ before result (stream_at (record { text = text.now; at = place_after result at })) }
+    ensures table { IsNext (record { text = text.now; at = at }) result }
     ensures within { IfOk result (λ next. IfSome next (λ token. (at < token.end) × (token.end ≤ length text.now))) }
 {
     let start = gap_end(text, at);

@@ -1,6 +1,7 @@
 use Rattle.std.proofs.Common.{◌≡◌, ◌<◌, length, drop, sym, ◌∙◌, ap, subst, arith, rules}
 use Rattle.fz_token.specs.Stream.{start_after, found, stream_at, before, place_after}
 use Rattle.fz_token.specs.Token.{token_at}
+use Rattle.fz_token.proofs.Nexts.{answer_says}
 use Rattle.fz_token.proofs.Streams.{stream_ends, stream_found}
 use Rattle.fz_token.proofs.scan.next_token.Goals as goal
 
@@ -16,3 +17,9 @@ returns-clause-stream c =
     let is_found : c.map.result ≡ found c.token_at.result = search rules in
     subst (λ r. stream_at (record { text = text; at = c.args.at }) ≡ before r (stream_at (record { text = text; at = place_after r c.args.at }))) (sym is_found)
       (stream_found text c.args.at start (length c.split_at.result.1.now) c.token_at.result c.gap_end-start.ensures.value is_left is_token c.token_at.ensures.within)
+
+pub returns-then-start-text-clause-table : goal.returns-then-start-text-clause-table
+returns-then-start-text-clause-table c = answer_says c.args.text.now c.args.at _ c.requires (search rules)
+
+pub returns-clause-table : goal.returns-clause-table
+returns-clause-table c = answer_says c.args.text.now c.args.at c.map.result c.requires (search rules)
