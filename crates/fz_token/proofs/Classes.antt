@@ -1,9 +1,7 @@
 -- The first byte of a token says of which kind it is.
-use Rattle.std.proofs.Common.{◌≡◌, ℕ, zero, suc, ◌+◌, ◌<◌, ◌≤◌, Bool, true, false, cond, eqb, ltb, leb, ◌||◌, ◌&&◌, List, [], ◌∷◌, ◌++◌, length, take, drop, get_or, refl, sym, ◌∙◌, ap, subst, arith, rules, inl, inr, if◌then◌else◌, ◌==◌}
-use Rattle.std.specs.Char.{is_digit, is_ascii_digit, digit_value}
-use Rattle.std.specs.List.{AllPass}
-use Rattle.std.proofs.lemmas.List.{get_or-take}
-use Rattle.std.proofs.lemmas.Bool.{cases_Bool, eqb-true, ltb-true}
+use Rattle.std.proofs.Common.{◌≡◌, ℕ, zero, suc, ◌<◌, ◌≤◌, Bool, true, cond, ◌||◌, List, [], ◌∷◌, ◌++◌, take, drop, get_or, refl, sym, ◌∙◌, ap, subst, arith, inl, inr, if◌then◌else◌, ◌==◌}
+use Rattle.std.specs.Char.{is_digit, is_ascii_digit}
+use Rattle.std.proofs.lemmas.Bool.{cases_Bool, eqb-true}
 use Rattle.std.proofs.lemmas.Bool.Decides.{nat_tests}
 use Rattle.fz_token.specs.Forms.{Spells, IsNatural, IsDigits, unsigned, is_negative, mark_spelling, LacksDigits}
 use Rattle.fz_token.specs.Word.{begins_word, spelling}
@@ -101,16 +99,19 @@ alone (x ∷ ds) d = d.each 0 x (omega arith)
 
 pub natural_first : (u : List ℕ) (n : ℕ) → IsNatural u n → is_digit (get_or u 0 0) 10 ≡ true
 natural_first u n h = elim h [
-    inl b ↦ subst (λ v. is_digit (get_or v 0 0) 10 ≡ true) (sym b.spelled ∙ refl) (alone b.digits b.are_digits)
+  | inl b ↦ subst (λ v. is_digit (get_or v 0 0) 10 ≡ true) (sym b.spelled ∙ refl) (alone b.digits b.are_digits)
   | inr o ↦ elim o [
-      inl x ↦ subst (λ v. is_digit (get_or v 0 0) 10 ≡ true) (sym x.spelled) refl
-    | inr y ↦ subst (λ v. is_digit (get_or v 0 0) 10 ≡ true) (sym y.spelled) refl ] ]
+    | inl x ↦ subst (λ v. is_digit (get_or v 0 0) 10 ≡ true) (sym x.spelled) refl
+    | inr y ↦ subst (λ v. is_digit (get_or v 0 0) 10 ≡ true) (sym y.spelled) refl
+  ]
+]
 
 -- by its first digit, a number is of the class of numbers with its sign too
 signed_class : (w : List ℕ) → is_digit (get_or (unsigned w) 0 0) 10 ≡ true → class_of (get_or w 0 0) ≡ Numbers
 signed_class w h = elim (cases_Bool (is_negative w)) [
-    inl minus ↦ ap class_of (eqb-true (get_or w 0 0) 45 minus) ∙ class_of_minus
-  | inr plus ↦ class_of_digit (get_or w 0 0) (subst (λ (b : Bool). is_digit (get_or (cond b (drop 1 w) w) 0 0) 10 ≡ true) plus h) ]
+  | inl minus ↦ ap class_of (eqb-true (get_or w 0 0) 45 minus) ∙ class_of_minus
+  | inr plus ↦ class_of_digit (get_or w 0 0) (subst (λ (b : Bool). is_digit (get_or (cond b (drop 1 w) w) 0 0) 10 ≡ true) plus h)
+]
 
 quote_class : class_of 34 ≡ Quotes
 unfolding class_of
@@ -149,8 +150,9 @@ front_class (b ∷ s) (suc n) k h = spells_class k (b ∷ take n s) h
 
 pub lacks_class : (s : List ℕ) → LacksDigits s → class_of (get_or s 0 0) ≡ Numbers
 lacks_class s h = signed_class s (elim h [
-    inl x ↦ subst (λ v. is_digit (get_or v 0 0) 10 ≡ true) (sym x.spelled) refl
-  | inr y ↦ subst (λ v. is_digit (get_or v 0 0) 10 ≡ true) (sym y.spelled) refl ])
+  | inl x ↦ subst (λ v. is_digit (get_or v 0 0) 10 ≡ true) (sym x.spelled) refl
+  | inr y ↦ subst (λ v. is_digit (get_or v 0 0) 10 ≡ true) (sym y.spelled) refl
+])
 
 -- no form is empty
 pub front_some : (s : List ℕ) (n : ℕ) (k : TokenKind) → Spells k (take n s) → 0 < n

@@ -1,10 +1,9 @@
 -- The longest fraction and exponent in front of some bytes.
-use Rattle.std.proofs.Common.{◌≡◌, ◌≢◌, ℕ, zero, suc, ◌+◌, ◌-◌, ◌<◌, ◌≤◌, Bool, true, false, ◌||◌, cond, eqb, List, [], ◌∷◌, ◌++◌, length, take, drop, get_or, refl, sym, ◌∙◌, ap, subst, arith, rules, inl, inr, ◌⊎◌}
+use Rattle.std.proofs.Common.{◌≡◌, ℕ, zero, suc, ◌+◌, ◌-◌, ◌<◌, ◌≤◌, true, false, ◌||◌, eqb, List, [], ◌∷◌, ◌++◌, length, take, drop, get_or, refl, sym, ◌∙◌, ap, subst, arith, inl, inr, ◌⊎◌}
 use Rattle.std.specs.Char.{is_digit}
-use Rattle.std.specs.List.{AllPass, prefix_len}
 use Rattle.std.proofs.lemmas.List.{append_assoc, append-nil, drop_at, length-append, length-take-le, length-drop}
 use Rattle.std.proofs.lemmas.List.Sums.{prefix_len-le-length}
-use Rattle.std.proofs.lemmas.Bool.{cases_Bool, eqb-true, eq-eqb, ne_eqb, or_left, or_right, or_cases, both_ways}
+use Rattle.std.proofs.lemmas.Bool.{cases_Bool, eqb-true, eq-eqb, ne_eqb, or_left, or_right, or_cases}
 use Rattle.fz_token.specs.Forms.{IsDigits, IsFraction, IsExponent}
 use Rattle.fz_token.specs.Number.{digits_len, with_digits, fraction_len, sign_len, exponent_len, float_tail_len}
 use Rattle.fz_token.proofs.Classes.{digit_between}
@@ -20,15 +19,14 @@ some_from len (suc d) h = omega arith
 -- the digits in front are digits
 pub digits_form : (radix : ℕ) (s : List ℕ) → 0 < digits_len radix s → IsDigits radix (take (digits_len radix s) s)
 digits_form radix s h = record {
-    some = (let size = length-take-le (digits_len radix s) s (prefix_len-le-length (λ b. is_digit b radix) s) in omega (arith, size));
-    each = run_passes (λ b. is_digit b radix) s;
-  }
+  some = (let size = length-take-le (digits_len radix s) s (prefix_len-le-length (λ b. is_digit b radix) s) in omega (arith, size));
+  each = run_passes (λ b. is_digit b radix) s;
+}
 
 pub digits_part : (radix : ℕ) (ds more : List ℕ) → IsDigits radix ds → length ds ≤ digits_len radix (ds ++ more)
 digits_part radix ds more h = passing_part (λ b. is_digit b radix) ds more h.each
 
 -- ---- exponents
-
 
 letter_test : (e : ℕ) → (e ≡ 101) ⊎ (e ≡ 69) → (eqb e 101 || eqb e 69) ≡ true
 letter_test e h = elim h [ inl lower ↦ or_left (eqb e 101) (eqb e 69) (eq-eqb e 101 lower) | inr upper ↦ or_right (eqb e 101) (eqb e 69) (eq-eqb e 69 upper) ]
@@ -57,8 +55,9 @@ unsigned_digits (d ∷ ds) more h =
 
 sign_part : (sign ds more : List ℕ) → (sign ≡ []) ⊎ ((sign ≡ 43 ∷ []) ⊎ (sign ≡ 45 ∷ [])) → IsDigits 10 ds → sign_len (sign ++ (ds ++ more)) ≡ length sign
 sign_part sign ds more h d = elim h [
-    inl none ↦ rw none (unsigned_digits ds more d)
-  | inr some ↦ elim some [ inl plus ↦ rw plus refl | inr minus ↦ rw minus refl ] ]
+  | inl none ↦ rw none (unsigned_digits ds more d)
+  | inr some ↦ elim some [ inl plus ↦ rw plus refl | inr minus ↦ rw minus refl ]
+]
 
 -- an exponent in front of other bytes is no longer than that which is found
 pub exponent_part : (x more : List ℕ) → IsExponent x → length x ≤ exponent_len (x ++ more)
@@ -70,17 +69,19 @@ exponent_part x more h =
     let many : length h.digits ≤ digits_len 10 (drop (sign_len t) t) = subst (λ l. length h.digits ≤ digits_len 10 l) (sym rest) (digits_part 10 h.digits more h.are_digits) in
     let some : 0 < length h.digits = h.are_digits.some in
     let value : exponent_len (h.letter ∷ t) ≡ (1 + sign_len t) + digits_len 10 (drop (sign_len t) t) =
-        exponent_value h.letter t h.is_letter ∙ with_some (1 + sign_len t) (digits_len 10 (drop (sign_len t) t)) (omega arith) in
+    exponent_value h.letter t h.is_letter ∙ with_some (1 + sign_len t) (digits_len 10 (drop (sign_len t) t)) (omega arith) in
     let size : length x ≡ suc (length h.sign + length h.digits) = ap length h.spelled ∙ ap suc (length-append h.sign h.digits) in
     omega (arith, ap exponent_len whole)
 
 sign_form : (t : List ℕ) → (take (sign_len t) t ≡ []) ⊎ ((take (sign_len t) t ≡ 43 ∷ []) ⊎ (take (sign_len t) t ≡ 45 ∷ []))
 sign_form [] = inl refl
 sign_form (c ∷ t) = elim (cases_Bool (eqb c 43)) [
-    inl plus ↦ inr (inl (rw plus (ap (λ x. x ∷ []) (eqb-true c 43 plus))))
+  | inl plus ↦ inr (inl (rw plus (ap (λ x. x ∷ []) (eqb-true c 43 plus))))
   | inr other ↦ elim (cases_Bool (eqb c 45)) [
-      inl minus ↦ inr (inr (rw (other, minus) (ap (λ x. x ∷ []) (eqb-true c 45 minus))))
-    | inr none ↦ inl (rw (other, none) refl) ] ]
+    | inl minus ↦ inr (inr (rw (other, minus) (ap (λ x. x ∷ []) (eqb-true c 45 minus))))
+    | inr none ↦ inl (rw (other, none) refl)
+  ]
+]
 
 sign_within : (t : List ℕ) → sign_len t ≤ length t
 sign_within [] = omega arith
@@ -97,22 +98,23 @@ letter_form e t letter h =
     let bound : digits ≤ length rest = prefix_len-le-length (λ b. is_digit b 10) rest in
     let left : length rest ≡ length t - sign = length-drop sign t in
     let is : IsExponent (take (suc (sign + digits)) (e ∷ t)) = record {
-        letter = e;
-        sign = take sign t;
-        digits = take digits rest;
-        spelled = ap (λ l. e ∷ l) (take_add sign digits t);
-        is_letter = letter;
-        is_sign = sign_form t;
-        are_digits = digits_form 10 rest some;
-      } in
+      letter = e;
+      sign = take sign t;
+      digits = take digits rest;
+      spelled = ap (λ l. e ∷ l) (take_add sign digits t);
+      is_letter = letter;
+      is_sign = sign_form t;
+      are_digits = digits_form 10 rest some;
+    } in
     (subst (λ n. IsExponent (take n (e ∷ t))) (sym size) is, omega (arith, sign_within t))
 
 -- an exponent that is found has the form
 pub exponent_form : (s : List ℕ) → 0 < exponent_len s → IsExponent (take (exponent_len s) s) × (exponent_len s ≤ length s)
 exponent_form [] h = absurd (omega arith)
 exponent_form (e ∷ t) h = elim (cases_Bool (eqb e 101 || eqb e 69)) [
-    inl letter ↦ letter_form e t (letter_from e letter) (subst (λ n. 0 < n) (exponent_value e t (letter_from e letter)) h)
-  | inr other ↦ (let none : exponent_len (e ∷ t) ≡ 0 = rw other refl in absurd (omega (arith, none))) ]
+  | inl letter ↦ letter_form e t (letter_from e letter) (subst (λ n. 0 < n) (exponent_value e t (letter_from e letter)) h)
+  | inr other ↦ (let none : exponent_len (e ∷ t) ≡ 0 = rw other refl in absurd (omega (arith, none)))
+]
 
 -- ---- fractions
 
@@ -127,13 +129,14 @@ point_form b t point h =
     let bound : digits ≤ length t = prefix_len-le-length (λ b. is_digit b 10) t in
     let is : IsFraction (take (suc digits) (46 ∷ t)) = record { digits = take digits t; spelled = refl; are_digits = digits_form 10 t some } in
     subst (λ c. IsFraction (take (fraction_len (c ∷ t)) (c ∷ t)) × (fraction_len (c ∷ t) ≤ length (c ∷ t))) (sym point)
-      (subst (λ n. IsFraction (take n (46 ∷ t))) (sym size) is, omega (arith, size))
+    (subst (λ n. IsFraction (take n (46 ∷ t))) (sym size) is, omega (arith, size))
 
 fraction_form : (s : List ℕ) → 0 < fraction_len s → IsFraction (take (fraction_len s) s) × (fraction_len s ≤ length s)
 fraction_form [] h = absurd (omega arith)
 fraction_form (b ∷ t) h = elim (cases_Bool (eqb b 46)) [
-    inl point ↦ point_form b t (eqb-true b 46 point) (subst (λ c. 0 < fraction_len (c ∷ t)) (eqb-true b 46 point) h)
-  | inr other ↦ (let none : fraction_len (b ∷ t) ≡ 0 = rw other refl in absurd (omega (arith, none))) ]
+  | inl point ↦ point_form b t (eqb-true b 46 point) (subst (λ c. 0 < fraction_len (c ∷ t)) (eqb-true b 46 point) h)
+  | inr other ↦ (let none : fraction_len (b ∷ t) ≡ 0 = rw other refl in absurd (omega (arith, none)))
+]
 
 -- ---- the tail of a float
 
@@ -159,31 +162,33 @@ tail_form t h =
     let x = exponent_len (drop f t) in
     let left : length (drop f t) ≡ length t - f = length-drop f t in
     elim (zero_or_some f) [
-      inl no_fraction ↦
-        (let e = exponent_form (drop f t) (omega (arith, no_fraction)) in record {
-          fraction = take f t;
-          exponent = take x (drop f t);
-          spelled = take_add f x t;
-          within = omega (arith, e.1);
-          is_tail = inr (subst (λ n. take n t ≡ []) (sym no_fraction) refl, e.0);
-        })
-    | inr fraction ↦
-        (let g = fraction_form t fraction in elim (zero_or_some x) [
-          inl no_exponent ↦ record {
+      | inl no_fraction ↦
+          (let e = exponent_form (drop f t) (omega (arith, no_fraction)) in record {
             fraction = take f t;
             exponent = take x (drop f t);
             spelled = take_add f x t;
-            within = omega (arith, g.1);
-            is_tail = inl (g.0, inl (subst (λ n. take n (drop f t) ≡ []) (sym no_exponent) refl));
-          }
-        | inr exponent ↦
-          (let e = exponent_form (drop f t) exponent in record {
-            fraction = take f t;
-            exponent = take x (drop f t);
-            spelled = take_add f x t;
-            within = omega (arith, e.1, g.1);
-            is_tail = inl (g.0, inr e.0);
-          }) ]) ]
+            within = omega (arith, e.1);
+            is_tail = inr (subst (λ n. take n t ≡ []) (sym no_fraction) refl, e.0);
+          })
+      | inr fraction ↦
+          (let g = fraction_form t fraction in elim (zero_or_some x) [
+            | inl no_exponent ↦ record {
+              fraction = take f t;
+              exponent = take x (drop f t);
+              spelled = take_add f x t;
+              within = omega (arith, g.1);
+              is_tail = inl (g.0, inl (subst (λ n. take n (drop f t) ≡ []) (sym no_exponent) refl));
+            }
+            | inr exponent ↦
+                (let e = exponent_form (drop f t) exponent in record {
+                  fraction = take f t;
+                  exponent = take x (drop f t);
+                  spelled = take_add f x t;
+                  within = omega (arith, e.1, g.1);
+                  is_tail = inl (g.0, inr e.0);
+                })
+          ])
+    ]
 
 exponent_first : (x more : List ℕ) → IsExponent x → (is_digit (get_or (x ++ more) 0 0) 10 ≡ false) × (eqb (get_or (x ++ more) 0 0) 46 ≡ false)
 exponent_first x more h =
@@ -202,7 +207,7 @@ pub record TailPart (fraction exponent more : List ℕ) : Type 0 where
 fraction_alone : (fraction exponent more : List ℕ) → IsFraction fraction → exponent ≡ [] → TailPart fraction exponent more
 fraction_alone fraction exponent more g none =
     let whole : (fraction ++ exponent) ++ more ≡ 46 ∷ (g.digits ++ more) =
-        ap (λ l. (fraction ++ l) ++ more) none ∙ ap (λ l. l ++ more) (append-nil fraction) ∙ ap (λ l. l ++ more) g.spelled in
+    ap (λ l. (fraction ++ l) ++ more) none ∙ ap (λ l. l ++ more) (append-nil fraction) ∙ ap (λ l. l ++ more) g.spelled in
     let some : 0 < length g.digits = g.are_digits.some in
     let many : length g.digits ≤ digits_len 10 (g.digits ++ more) = digits_part 10 g.digits more g.are_digits in
     let value : fraction_len (46 ∷ (g.digits ++ more)) ≡ 1 + digits_len 10 (g.digits ++ more) = with_some 1 (digits_len 10 (g.digits ++ more)) (omega arith) in
@@ -232,15 +237,15 @@ both_parts : (fraction exponent more : List ℕ) → IsFraction fraction → IsE
 both_parts fraction exponent more g e =
     let rest : List ℕ = exponent ++ more in
     let whole : (fraction ++ exponent) ++ more ≡ 46 ∷ (g.digits ++ rest) =
-        append_assoc fraction exponent more ∙ ap (λ l. l ++ rest) g.spelled in
+    append_assoc fraction exponent more ∙ ap (λ l. l ++ rest) g.spelled in
     let first = exponent_first exponent more e in
     let some : 0 < length g.digits = g.are_digits.some in
     let run : digits_len 10 (g.digits ++ rest) ≡ length g.digits = run_before (λ b. is_digit b 10) g.digits rest g.are_digits.each first.0 in
     let value : fraction_len (46 ∷ (g.digits ++ rest)) ≡ suc (length g.digits) =
-        with_some 1 (digits_len 10 (g.digits ++ rest)) (omega arith) ∙ (ap (λ n. 1 + n) run ∙ omega arith) in
+    with_some 1 (digits_len 10 (g.digits ++ rest)) (omega arith) ∙ (ap (λ n. 1 + n) run ∙ omega arith) in
     let after : drop (suc (length g.digits)) (46 ∷ (g.digits ++ rest)) ≡ rest = drop_at g.digits rest (length g.digits) refl in
     let total : float_tail_len (46 ∷ (g.digits ++ rest)) ≡ suc (length g.digits) + exponent_len rest =
-        ap (λ n. n + exponent_len (drop n (46 ∷ (g.digits ++ rest)))) value ∙ ap (λ l. suc (length g.digits) + exponent_len l) after in
+    ap (λ n. n + exponent_len (drop n (46 ∷ (g.digits ++ rest)))) value ∙ ap (λ l. suc (length g.digits) + exponent_len l) after in
     let size : length fraction ≡ suc (length g.digits) = ap length g.spelled in
     record {
       no_digit = ap (λ l. is_digit (get_or l 0 0) 10) whole;
@@ -250,5 +255,6 @@ both_parts fraction exponent more g e =
 
 pub tail_part : (fraction exponent more : List ℕ) → IsTail fraction exponent → TailPart fraction exponent more
 tail_part fraction exponent more h = elim h [
-    inl f ↦ elim f.1 [ inl none ↦ fraction_alone fraction exponent more f.0 none | inr e ↦ both_parts fraction exponent more f.0 e ]
-  | inr x ↦ exponent_alone fraction exponent more x.0 x.1 ]
+  | inl f ↦ elim f.1 [ inl none ↦ fraction_alone fraction exponent more f.0 none | inr e ↦ both_parts fraction exponent more f.0 e ]
+  | inr x ↦ exponent_alone fraction exponent more x.0 x.1
+]

@@ -1,5 +1,5 @@
 -- The mark in front of some bytes is the longest form there.
-use Rattle.std.proofs.Common.{◌≡◌, ◌≢◌, ℕ, zero, suc, ◌+◌, ◌<◌, ◌≤◌, Bool, true, false, ◌&&◌, cond, eqb, List, [], ◌∷◌, ◌++◌, length, take, drop, get_or, Option, Some, None, Ok, Err, refl, sym, ◌∙◌, ap, subst, arith, rules, inl, inr, ◌⊎◌}
+use Rattle.std.proofs.Common.{◌≡◌, ℕ, ◌≤◌, Bool, true, false, ◌&&◌, cond, eqb, List, [], ◌∷◌, length, take, get_or, Option, Some, None, refl, sym, ◌∙◌, ap, subst, arith, inl, inr, ◌⊎◌}
 use Rattle.std.proofs.lemmas.List.{length-take-le, get_or-take}
 use Rattle.std.proofs.lemmas.Bool.{eqb-true, and_parts, and_right}
 use Rattle.fz_token.specs.Forms.{Spells, Says, mark_spelling}
@@ -40,7 +40,7 @@ single_spells b m h =
     (single_step b 59 mark.Semicolon m _ P (spelled_one b 59 mark.Semicolon m refl)
     (single_step b 58 mark.Colon m _ P (spelled_one b 58 mark.Colon m refl)
     (single_step b 61 mark.Equals m None P (spelled_one b 61 mark.Equals m refl) (λ none. cc)
-      (eqb b 61) refl) (eqb b 58) refl) (eqb b 59) refl) (eqb b 44) refl) (eqb b 125) refl) (eqb b 123) refl) (eqb b 93) refl) (eqb b 91) refl) (eqb b 41) refl) (eqb b 40) refl h
+    (eqb b 61) refl) (eqb b 58) refl) (eqb b 59) refl) (eqb b 44) refl) (eqb b 125) refl) (eqb b 123) refl) (eqb b 93) refl) (eqb b 91) refl) (eqb b 41) refl) (eqb b 40) refl h
 
 spelled_two : (b x c y : ℕ) (found m : Mark) → mark_spelling found ≡ x ∷ y ∷ [] → b ≡ x → c ≡ y → found ≡ m → b ∷ c ∷ [] ≡ mark_spelling m
 spelled_two b x c y found m is e f g = ap (λ v. v ∷ c ∷ []) e ∙ ap (λ v. x ∷ v ∷ []) f ∙ sym is ∙ ap mark_spelling g
@@ -50,7 +50,7 @@ double_spells b c m h =
     let P : Type 0 = b ∷ c ∷ [] ≡ mark_spelling m in
     double_step b 58 c 58 mark.DoubleColon m _ P (spelled_two b 58 c 58 mark.DoubleColon m refl)
     (double_step b 46 c 46 mark.DoubleDot m None P (spelled_two b 46 c 46 mark.DoubleDot m refl) (λ none. cc)
-      (eqb b 46 && eqb c 46) refl) (eqb b 58 && eqb c 58) refl h
+    (eqb b 46 && eqb c 46) refl) (eqb b 58 && eqb c 58) refl h
 
 double_alone : (b : ℕ) → double b 0 ≡ None
 double_alone b = rw (and_right (eqb b 58) false refl, and_right (eqb b 46) false refl) refl
@@ -135,8 +135,9 @@ longest_single s n m none h = elim h [ inl one ↦ omega (arith, one.0) | inr tw
 
 untested : (s : List ℕ) (n : ℕ) (m : Mark) → double (get_or s 0 0) (get_or s 1 0) ≡ None → single (get_or s 0 0) ≡ None → IsTested s n m → ⊥
 untested s n m no_two no_one h = elim h [
-    inl one ↦ (let some : single (get_or s 0 0) ≡ Some m = one.1 in cc)
-  | inr two ↦ (let some : double (get_or s 0 0) (get_or s 1 0) ≡ Some m = two.1 in cc) ]
+  | inl one ↦ (let some : single (get_or s 0 0) ≡ Some m = one.1 in cc)
+  | inr two ↦ (let some : double (get_or s 0 0) (get_or s 1 0) ≡ Some m = two.1 in cc)
+]
 
 quotes_class : class_of 34 ≡ Quotes
 unfolding class_of
@@ -144,10 +145,11 @@ quotes_class = refl
 
 single_says : (at : ℕ) (s : List ℕ) (o : Option Mark) → IsMarkClass (class_of (get_or s 0 0)) → double (get_or s 0 0) (get_or s 1 0) ≡ None →
     single (get_or s 0 0) ≡ o → Says at s (single_token at o)
-single_says at s None c none e =
-    (refl,
-     λ q. not_quotes (subst IsMarkClass (ap class_of q ∙ quotes_class) c),
-     λ n k within h. let found = only_mark s n k c within h in untested s n found.0 none e found.1)
+single_says at s None c none e = (
+  refl,
+  λ q. not_quotes (subst IsMarkClass (ap class_of q ∙ quotes_class) c),
+  λ n k within h. let found = only_mark s n k c within h in untested s n found.0 none e found.1,
+)
 single_says at s (Some m) c none e =
     let within = single_within s m e in
     record {

@@ -1,9 +1,8 @@
 -- The longest integer without sign in front of some bytes.
-use Rattle.std.proofs.Common.{◌≡◌, ◌≢◌, ℕ, zero, suc, ◌+◌, ◌-◌, ◌<◌, ◌≤◌, Bool, true, false, ◌&&◌, cond, eqb, List, [], ◌∷◌, ◌++◌, length, take, drop, get_or, refl, sym, ◌∙◌, ap, subst, arith, rules, inl, inr, ◌⊎◌}
+use Rattle.std.proofs.Common.{◌≡◌, ℕ, zero, suc, ◌+◌, ◌<◌, ◌≤◌, false, ◌&&◌, eqb, List, [], ◌∷◌, length, take, refl, sym, ◌∙◌, ap, subst, arith, inl, inr, ◌⊎◌}
 use Rattle.std.specs.Char.{is_digit}
-use Rattle.std.specs.List.{AllPass, prefix_len}
+use Rattle.std.specs.List.{AllPass}
 use Rattle.std.specs.Str.Parse.{digits_value}
-use Rattle.std.proofs.lemmas.List.{length-take-le}
 use Rattle.std.proofs.lemmas.List.Sums.{prefix_len-le-length}
 use Rattle.std.proofs.lemmas.Bool.{cases_Bool, eqb-true, and_parts, and_right}
 use Rattle.fz_token.specs.Forms.{IsDigits, IsBased, IsNatural}
@@ -36,12 +35,12 @@ front_two [] (suc m) x y ds h = cc
 front_two (b ∷ u) (suc zero) x y ds h = cc
 front_two (b ∷ []) (suc (suc m)) x y ds h = cc
 front_two (b ∷ c ∷ u) (suc (suc m)) x y ds h = record {
-    rest = u;
-    count = m;
-    is = (let first : b ≡ x = cc in let second : c ≡ y = cc in ap (λ v. v ∷ c ∷ u) first ∙ ap (λ v. x ∷ v ∷ u) second);
-    size = refl;
-    digits = (let tail : take m u ≡ ds = cc in tail);
-  }
+  rest = u;
+  count = m;
+  is = (let first : b ≡ x = cc in let second : c ≡ y = cc in ap (λ v. v ∷ c ∷ u) first ∙ ap (λ v. x ∷ v ∷ u) second);
+  size = refl;
+  digits = (let tail : take m u ≡ ds = cc in tail);
+}
 
 decimal_front : (u : List ℕ) (m n : ℕ) → m ≤ length u → IsBased [] 10 (take m u) n → m ≤ digits_len 10 u
 decimal_front u m n within h =
@@ -58,20 +57,22 @@ named_digits radix rest m count ds within size e h =
 named_longest : (second radix : ℕ) (rest : List ℕ) → digits_len 10 (48 ∷ second ∷ rest) ≤ 2 → (120 ≡ second → 16 ≡ radix) → (111 ≡ second → 8 ≡ radix) →
     (m n : ℕ) → m ≤ length (48 ∷ second ∷ rest) → IsNatural (take m (48 ∷ second ∷ rest)) n → m ≤ suc (suc (digits_len radix rest))
 named_longest second radix rest few hex oct m n within h = elim h [
-    inl d ↦ omega (arith, decimal_front (48 ∷ second ∷ rest) m n within d)
+  | inl d ↦ omega (arith, decimal_front (48 ∷ second ∷ rest) m n within d)
   | inr o ↦ elim o [
-      inl x ↦
+    | inl x ↦
         (let f = front_two (48 ∷ second ∷ rest) m 48 120 x.digits x.spelled in
-         let is : 48 ∷ second ∷ rest ≡ 48 ∷ 120 ∷ f.rest = f.is in
-         let same : second ≡ 120 = cc in
-         let tail : f.rest ≡ rest = cc in
-         named_digits radix rest m f.count x.digits within f.size (ap (take f.count) (sym tail) ∙ f.digits) (subst (λ r. IsDigits r x.digits) (hex (sym same)) x.are_digits))
+        let is : 48 ∷ second ∷ rest ≡ 48 ∷ 120 ∷ f.rest = f.is in
+        let same : second ≡ 120 = cc in
+        let tail : f.rest ≡ rest = cc in
+        named_digits radix rest m f.count x.digits within f.size (ap (take f.count) (sym tail) ∙ f.digits) (subst (λ r. IsDigits r x.digits) (hex (sym same)) x.are_digits))
     | inr y ↦
         (let f = front_two (48 ∷ second ∷ rest) m 48 111 y.digits y.spelled in
-         let is : 48 ∷ second ∷ rest ≡ 48 ∷ 111 ∷ f.rest = f.is in
-         let same : second ≡ 111 = cc in
-         let tail : f.rest ≡ rest = cc in
-         named_digits radix rest m f.count y.digits within f.size (ap (take f.count) (sym tail) ∙ f.digits) (subst (λ r. IsDigits r y.digits) (oct (sym same)) y.are_digits)) ] ]
+        let is : 48 ∷ second ∷ rest ≡ 48 ∷ 111 ∷ f.rest = f.is in
+        let same : second ≡ 111 = cc in
+        let tail : f.rest ≡ rest = cc in
+        named_digits radix rest m f.count y.digits within f.size (ap (take f.count) (sym tail) ∙ f.digits) (subst (λ r. IsDigits r y.digits) (oct (sym same)) y.are_digits))
+  ]
+]
 
 pub hex_run : (rest : List ℕ) → 0 < digits_len 16 rest → NaturalRun (48 ∷ 120 ∷ rest) (2 + digits_len 16 rest) (digits_value 16 (take (digits_len 16 rest) rest))
 hex_run rest some =
@@ -81,7 +82,7 @@ hex_run rest some =
     record {
       within = omega arith;
       form = subst (λ n. IsNatural (take n (48 ∷ 120 ∷ rest)) (digits_value 16 (take len rest))) size
-        (inr (inl (record { digits = take len rest; spelled = refl; are_digits = digits_form 16 rest some; value = refl })));
+          (inr (inl (record { digits = take len rest; spelled = refl; are_digits = digits_form 16 rest some; value = refl })));
       longest = λ m n within h. omega (arith, named_longest 120 16 rest (omega arith) (λ e. refl) (λ e. absurd (omega arith)) m n within h);
     }
 
@@ -93,7 +94,7 @@ oct_run rest some =
     record {
       within = omega arith;
       form = subst (λ n. IsNatural (take n (48 ∷ 111 ∷ rest)) (digits_value 8 (take len rest))) size
-        (inr (inr (record { digits = take len rest; spelled = refl; are_digits = digits_form 8 rest some; value = refl })));
+          (inr (inr (record { digits = take len rest; spelled = refl; are_digits = digits_form 8 rest some; value = refl })));
       longest = λ m n within h. omega (arith, named_longest 111 8 rest (omega arith) (λ e. absurd (omega arith)) (λ e. refl) m n within h);
     }
 
@@ -113,12 +114,14 @@ dec_run u plain some =
     record {
       within = omega arith;
       form = subst (λ n. IsNatural (take n u) (digits_value 10 (take len u))) size
-        (inl (record { digits = take len u; spelled = refl; are_digits = digits_form 10 u some; value = refl }));
+          (inl (record { digits = take len u; spelled = refl; are_digits = digits_form 10 u some; value = refl }));
       longest = λ m n within h. elim h [
-        inl d ↦ omega (arith, decimal_front u m n within d)
-      | inr o ↦ elim o [
-          inl x ↦ (let f = front_two u m 48 120 x.digits x.spelled in let other : radix_of u ≡ 16 = ap radix_of f.is in absurd (omega arith))
-        | inr y ↦ (let f = front_two u m 48 111 y.digits y.spelled in let other : radix_of u ≡ 8 = ap radix_of f.is in absurd (omega arith)) ] ];
+        | inl d ↦ omega (arith, decimal_front u m n within d)
+        | inr o ↦ elim o [
+          | inl x ↦ (let f = front_two u m 48 120 x.digits x.spelled in let other : radix_of u ≡ 16 = ap radix_of f.is in absurd (omega arith))
+          | inr y ↦ (let f = front_two u m 48 111 y.digits y.spelled in let other : radix_of u ≡ 8 = ap radix_of f.is in absurd (omega arith))
+        ]
+      ];
     }
 
 -- the base is named by the first two bytes, or it is ten
@@ -126,9 +129,11 @@ pub named_cases : (u : List ℕ) → Named 120 u ⊎ (Named 111 u ⊎ (radix_of 
 named_cases [] = inr (inr refl)
 named_cases (b ∷ []) = inr (inr (rw (and_right (eqb b 48) false refl) refl))
 named_cases (b ∷ c ∷ u) = elim (cases_Bool (eqb b 48 && eqb c 120)) [
-    inl hex ↦ (let both = and_parts (eqb b 48) (eqb c 120) hex in
+  | inl hex ↦ (let both = and_parts (eqb b 48) (eqb c 120) hex in
       inl (record { rest = u; is = ap (λ v. v ∷ c ∷ u) (eqb-true b 48 both.0) ∙ ap (λ v. 48 ∷ v ∷ u) (eqb-true c 120 both.1) }))
   | inr other ↦ elim (cases_Bool (eqb b 48 && eqb c 111)) [
-      inl oct ↦ (let both = and_parts (eqb b 48) (eqb c 111) oct in
+    | inl oct ↦ (let both = and_parts (eqb b 48) (eqb c 111) oct in
         inr (inl (record { rest = u; is = ap (λ v. v ∷ c ∷ u) (eqb-true b 48 both.0) ∙ ap (λ v. 48 ∷ v ∷ u) (eqb-true c 111 both.1) })))
-    | inr none ↦ inr (inr (rw (other, none) refl)) ] ]
+    | inr none ↦ inr (inr (rw (other, none) refl))
+  ]
+]

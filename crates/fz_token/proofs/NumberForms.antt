@@ -1,17 +1,16 @@
 -- The number in front of some bytes is the longest form there.
-use Rattle.std.proofs.Common.{◌≡◌, ◌≢◌, ℕ, zero, suc, ◌+◌, ◌-◌, ◌<◌, ◌≤◌, Bool, true, false, ◌||◌, ◌&&◌, cond, eqb, ltb, List, [], ◌∷◌, ◌++◌, length, take, drop, get_or, Option, Some, None, Ok, Err, refl, sym, ◌∙◌, ap, subst, arith, rules, inl, inr, ◌⊎◌}
-use Rattle.std.specs.Prelude.{slice_index, ℤ, pos, negsuc, neg_ℤ, nat_abs, nat_lt}
+use Rattle.std.proofs.Common.{◌≡◌, ◌≢◌, ℕ, zero, suc, ◌+◌, ◌-◌, ◌<◌, ◌≤◌, Bool, true, false, ◌||◌, cond, eqb, ltb, List, [], ◌∷◌, ◌++◌, length, take, drop, get_or, Option, Some, None, refl, sym, ◌∙◌, ap, subst, arith, inl, inr, ◌⊎◌}
+use Rattle.std.specs.Prelude.{slice_index, ℤ, nat_abs, nat_lt}
 use Rattle.std.specs.Char.{is_digit}
-use Rattle.std.specs.List.{AllPass, prefix_len}
 use Rattle.std.specs.Str.Parse.{digits_value}
 use Rattle.std.proofs.lemmas.List.{append_assoc, drop_at, length-append, length-take-le, length-drop, take-append-drop}
 use Rattle.std.proofs.lemmas.List.Sums.{prefix_len-le-length}
 use Rattle.std.proofs.lemmas.Bool.{cases_Bool, eqb-true, eq-eqb, ne_eqb, lt-ltb, le-ltb, ltb-true, ltb-false}
-use Rattle.fz_token.specs.Forms.{Spells, Says, Stands, IsToken, IsTooLarge, IsInteger, IsFloat, IsNatural, IsDigits, LacksDigits, NothingStands, unsigned, is_negative}
+use Rattle.fz_token.specs.Forms.{Spells, Says, Stands, IsToken, IsInteger, IsFloat, IsNatural, LacksDigits, NothingStands, unsigned, is_negative}
 use Rattle.fz_token.specs.Number.{limit, digits_len, float_tail_len, radix_of, base_len, signed, integer, integer_token, unsigned_at, number_at}
 use Rattle.fz_token.specs.declared.TokenKind.{TokenKind}
 use Rattle.fz_token.specs.declared.TokenKind.TheVariants as kind
-use Rattle.fz_token.proofs.Classes.{Class, Words, Numbers, Quotes, Marks, class_of, front_class, front_some, first_digit, natural_first}
+use Rattle.fz_token.proofs.Classes.{Words, Numbers, Quotes, Marks, class_of, front_class, front_some, first_digit, natural_first}
 use Rattle.fz_token.proofs.FloatRuns.{digits_form, tail_form, tail_part, zero_or_some}
 use Rattle.fz_token.proofs.NaturalRuns.{NaturalRun, Named, named_cases, named_hex, named_oct, hex_run, oct_run, dec_run}
 use Rattle.fz_token.proofs.Runs.{take_add, run_before}
@@ -31,12 +30,12 @@ minus_front u m = let e : 1 + m ≡ suc m = omega arith in ap (λ n. take n (45 
 
 with_minus : (u : List ℕ) → Signed (45 ∷ u) u 1 true
 with_minus u = record {
-    size = omega arith;
-    small = omega arith;
-    front = λ m. ap unsigned (minus_front u m);
-    minus = λ m. ap is_negative (minus_front u m);
-    whole = refl;
-  }
+  size = omega arith;
+  small = omega arith;
+  front = λ m. ap unsigned (minus_front u m);
+  minus = λ m. ap is_negative (minus_front u m);
+  whole = refl;
+}
 
 plain_sign : (s : List ℕ) (m : ℕ) → eqb (get_or s 0 0) 45 ≡ false → is_negative (take m s) ≡ false
 plain_sign s zero h = refl
@@ -48,12 +47,12 @@ plain_front w h = rw h refl
 
 without_sign : (s : List ℕ) → eqb (get_or s 0 0) 45 ≡ false → Signed s s 0 false
 without_sign s h = record {
-    size = omega arith;
-    small = omega arith;
-    front = λ m. (let e : 0 + m ≡ m = omega arith in ap (λ n. unsigned (take n s)) e ∙ plain_front (take m s) (plain_sign s m h));
-    minus = λ m. (let e : 0 + m ≡ m = omega arith in ap (λ n. is_negative (take n s)) e ∙ plain_sign s m h);
-    whole = plain_front s h;
-  }
+  size = omega arith;
+  small = omega arith;
+  front = λ m. (let e : 0 + m ≡ m = omega arith in ap (λ n. unsigned (take n s)) e ∙ plain_front (take m s) (plain_sign s m h));
+  minus = λ m. (let e : 0 + m ≡ m = omega arith in ap (λ n. is_negative (take n s)) e ∙ plain_sign s m h);
+  whole = plain_front s h;
+}
 
 -- ---- which forms a front may have
 
@@ -91,17 +90,17 @@ float_front u w m within e h =
     let more = drop m u in
     let front : take m u ≡ h.whole ++ (h.fraction ++ h.exponent) = sym e ∙ h.spelled in
     let all : u ≡ h.whole ++ ((h.fraction ++ h.exponent) ++ more) =
-        sym (take-append-drop m u) ∙ ap (λ l. l ++ more) front ∙ append_assoc h.whole (h.fraction ++ h.exponent) more in
+    sym (take-append-drop m u) ∙ ap (λ l. l ++ more) front ∙ append_assoc h.whole (h.fraction ++ h.exponent) more in
     let tail = tail_part h.fraction h.exponent more h.is_tail in
     let run : digits_len 10 u ≡ length h.whole = ap (digits_len 10) all ∙ run_before (λ b. is_digit b 10) h.whole ((h.fraction ++ h.exponent) ++ more) h.are_digits.each tail.no_digit in
     let rest : drop (digits_len 10 u) u ≡ (h.fraction ++ h.exponent) ++ more =
-        ap (drop (digits_len 10 u)) all ∙ drop_at h.whole ((h.fraction ++ h.exponent) ++ more) (digits_len 10 u) (sym run) in
+    ap (drop (digits_len 10 u)) all ∙ drop_at h.whole ((h.fraction ++ h.exponent) ++ more) (digits_len 10 u) (sym run) in
     let bound : length h.fraction + length h.exponent ≤ float_tail_len (drop (digits_len 10 u) u) =
-        subst (λ l. length h.fraction + length h.exponent ≤ float_tail_len l) (sym rest) tail.bound in
+    subst (λ l. length h.fraction + length h.exponent ≤ float_tail_len l) (sym rest) tail.bound in
     let some : 0 < length h.fraction + length h.exponent = tail.some in
     let size : m ≡ length h.whole + (length h.fraction + length h.exponent) =
-        sym (length-take-le m u within) ∙ ap length front ∙ length-append h.whole (h.fraction ++ h.exponent)
-        ∙ ap (λ n. length h.whole + n) (length-append h.fraction h.exponent) in
+    sym (length-take-le m u within) ∙ ap length front ∙ length-append h.whole (h.fraction ++ h.exponent)
+    ∙ ap (λ n. length h.whole + n) (length-append h.fraction h.exponent) in
     (omega arith, omega arith)
 
 -- ---- where no digit stands
@@ -120,17 +119,19 @@ no_quote b c e = let other : class_of b ≡ Quotes = ap class_of e ∙ quotes_cl
 
 bare_says : (start sign : ℕ) (negative : Bool) (s u : List ℕ) → Signed s u sign negative → class_of (get_or s 0 0) ≡ Numbers → digits_len 10 u ≡ 0 →
     (slice_index s 0 ≢ 34) × NothingStands s
-bare_says start sign negative s u g c none =
-    (no_quote (get_or s 0 0) c,
-     λ n k within h.
-       let f = front_of s u sign n negative g (front_some s n k h) within in
-       elim (only_number s n k c h) [
-         inl i ↦ (let first : is_digit (get_or (take f.m u) 0 0) 10 ≡ true =
-             subst (λ l. is_digit (get_or l 0 0) 10 ≡ true) f.unsigned_is (natural_first (unsigned (take n s)) i.1.magnitude i.1.is_natural) in
-           absurd (omega (arith, digit_run u f.m first)))
-       | inr x ↦ (let first : is_digit (get_or (take f.m u) 0 0) 10 ≡ true =
-             subst (λ l. is_digit (get_or l 0 0) 10 ≡ true) (sym x.spelled ∙ f.unsigned_is) (first_digit x.whole (x.fraction ++ x.exponent) x.are_digits) in
-           absurd (omega (arith, digit_run u f.m first))) ])
+bare_says start sign negative s u g c none = (
+  no_quote (get_or s 0 0) c,
+  λ n k within h.
+      let f = front_of s u sign n negative g (front_some s n k h) within in
+      elim (only_number s n k c h) [
+        | inl i ↦ (let first : is_digit (get_or (take f.m u) 0 0) 10 ≡ true =
+            subst (λ l. is_digit (get_or l 0 0) 10 ≡ true) f.unsigned_is (natural_first (unsigned (take n s)) i.1.magnitude i.1.is_natural) in
+            absurd (omega (arith, digit_run u f.m first)))
+        | inr x ↦ (let first : is_digit (get_or (take f.m u) 0 0) 10 ≡ true =
+            subst (λ l. is_digit (get_or l 0 0) 10 ≡ true) (sym x.spelled ∙ f.unsigned_is) (first_digit x.whole (x.fraction ++ x.exponent) x.are_digits) in
+            absurd (omega (arith, digit_run u f.m first)))
+      ],
+)
 
 -- ---- floats
 
@@ -142,15 +143,18 @@ oct_tail u h = ap (λ v. float_tail_len (drop (digits_len 10 v) v)) h.is
 
 natural_within : (u : List ℕ) (m n : ℕ) → 0 < digits_len 10 u → 0 < float_tail_len (drop (digits_len 10 u) u) → m ≤ length u → IsNatural (take m u) n → m ≤ digits_len 10 u
 natural_within u m n some tail within h = elim (named_cases u) [
-    inl hex ↦ absurd (omega (arith, hex_tail u hex))
+  | inl hex ↦ absurd (omega (arith, hex_tail u hex))
   | inr o ↦ elim o [
-      inl oct ↦ absurd (omega (arith, oct_tail u oct))
-    | inr dec ↦ (let bound : m ≤ 0 + digits_len 10 u = (dec_run u dec some).longest m n within h in omega arith) ] ]
+    | inl oct ↦ absurd (omega (arith, oct_tail u oct))
+    | inr dec ↦ (let bound : m ≤ 0 + digits_len 10 u = (dec_run u dec some).longest m n within h in omega arith)
+  ]
+]
 
 lacks_named : (s u : List ℕ) → unsigned s ≡ u → LacksDigits s → Named 120 u ⊎ Named 111 u
 lacks_named s u e h = elim h [
-    inl x ↦ inl (record { rest = x.rest; is = sym e ∙ x.spelled })
-  | inr y ↦ inr (record { rest = y.rest; is = sym e ∙ y.spelled }) ]
+  | inl x ↦ inl (record { rest = x.rest; is = sym e ∙ x.spelled })
+  | inr y ↦ inr (record { rest = y.rest; is = sym e ∙ y.spelled })
+]
 
 float_token : (start sign at : ℕ) (negative : Bool) (s u : List ℕ) → Signed s u sign negative → class_of (get_or s 0 0) ≡ Numbers → at ≡ start + sign →
     0 < digits_len 10 u → 0 < float_tail_len (drop (digits_len 10 u) u) →
@@ -178,16 +182,18 @@ float_token start sign at negative s u g c place some tail =
           is_tail = f.is_tail;
         };
         longest = λ n k within h.
-          let r = front_of s u sign n negative g (front_some s n k h) within in
-          let e : n ≡ sign + r.m = r.size in
-          elim (only_number s n k c h) [
-            inl i ↦ (let bound : r.m ≤ d = natural_within u r.m i.1.magnitude some tail r.within (subst (λ l. IsNatural l i.1.magnitude) r.unsigned_is i.1.is_natural) in omega arith)
-          | inr x ↦ omega (arith, float_front u (take n s) r.m r.within r.unsigned_is x) ];
+            let r = front_of s u sign n negative g (front_some s n k h) within in
+            let e : n ≡ sign + r.m = r.size in
+            elim (only_number s n k c h) [
+              | inl i ↦ (let bound : r.m ≤ d = natural_within u r.m i.1.magnitude some tail r.within (subst (λ l. IsNatural l i.1.magnitude) r.unsigned_is i.1.is_natural) in omega arith)
+              | inr x ↦ omega (arith, float_front u (take n s) r.m r.within r.unsigned_is x)
+            ];
       };
       keeps_limit = tt;
       has_digits = λ lacks. elim (lacks_named s u g.whole lacks) [
-        inl hex ↦ omega (arith, hex_tail u hex)
-      | inr oct ↦ omega (arith, oct_tail u oct) ];
+        | inl hex ↦ omega (arith, hex_tail u hex)
+        | inr oct ↦ omega (arith, oct_tail u oct)
+      ];
     }
 
 -- ---- integers
@@ -238,23 +244,26 @@ integer_stands start sign negative s u size value g c tail run =
         is_signed = ap (λ b. signed b value) (sym (g.minus size));
       };
       longest = λ n k within h.
-        let r = front_of s u sign n negative g (front_some s n k h) within in
-        let e : n ≡ sign + r.m = r.size in
-        elim (only_number s n k c h) [
-          inl i ↦ (let bound : r.m ≤ size = run.longest r.m i.1.magnitude r.within (subst (λ l. IsNatural l i.1.magnitude) r.unsigned_is i.1.is_natural) in omega arith)
-        | inr x ↦ (let some = float_front u (take n s) r.m r.within r.unsigned_is x in absurd (omega (arith, some.1))) ];
+          let r = front_of s u sign n negative g (front_some s n k h) within in
+          let e : n ≡ sign + r.m = r.size in
+          elim (only_number s n k c h) [
+            | inl i ↦ (let bound : r.m ≤ size = run.longest r.m i.1.magnitude r.within (subst (λ l. IsNatural l i.1.magnitude) r.unsigned_is i.1.is_natural) in omega arith)
+            | inr x ↦ (let some = float_front u (take n s) r.m r.within r.unsigned_is x in absurd (omega (arith, some.1)))
+          ];
     }
 
 limited_says : (start sign at : ℕ) (negative : Bool) (s u : List ℕ) (size value : ℕ) → Signed s u sign negative → class_of (get_or s 0 0) ≡ Numbers →
     at ≡ start + sign → float_tail_len (drop (digits_len 10 u) u) ≡ 0 → NaturalRun u size value → (LacksDigits s → ⊥) →
     (over : Bool) → nat_lt limit value ≡ over → Says start s (integer_token start at (cond over None (Some (signed negative value, size))))
-limited_says start sign at negative s u size value g c place tail run has true e =
-    (refl, inr (record {
-      value = signed negative value;
-      len = sign + size;
-      stands = integer_stands start sign negative s u size value g c tail run;
-      beyond = subst (λ n. limit < n) (sym (nat_abs-signed negative value)) (ltb-true limit value e);
-    }))
+limited_says start sign at negative s u size value g c place tail run has true e = (
+  refl,
+  inr (record {
+    value = signed negative value;
+    len = sign + size;
+    stands = integer_stands start sign negative s u size value g c tail run;
+    beyond = subst (λ n. limit < n) (sym (nat_abs-signed negative value)) (ltb-true limit value e);
+  }),
+)
 limited_says start sign at negative s u size value g c place tail run has false e =
     record {
       len = sign + size;
@@ -278,8 +287,9 @@ lacking_says start at negative s u lacks e = subst (λ o. Says start s (integer_
 no_digit_first : (radix : ℕ) (rest : List ℕ) → is_digit 0 radix ≡ false → digits_len radix rest ≡ 0 → is_digit (get_or rest 0 0) radix ≡ false
 no_digit_first radix [] z h = z
 no_digit_first radix (b ∷ rest) z h = elim (cases_Bool (is_digit b radix)) [
-    inl digit ↦ (let some : digits_len radix (b ∷ rest) ≡ 1 + digits_len radix rest = rw digit refl in absurd (omega arith))
-  | inr none ↦ none ]
+  | inl digit ↦ (let some : digits_len radix (b ∷ rest) ≡ 1 + digits_len radix rest = rw digit refl in absurd (omega arith))
+  | inr none ↦ none
+]
 
 no_digits_after : (radix : ℕ) (rest : List ℕ) → is_digit (get_or rest 0 0) radix ≡ false → digits_len radix rest ≡ 0
 no_digits_after radix [] h = refl
@@ -293,78 +303,88 @@ rest_is x y r t h = cc
 
 hex_has : (s rest : List ℕ) → unsigned s ≡ 48 ∷ 120 ∷ rest → 0 < digits_len 16 rest → LacksDigits s → ⊥
 hex_has s rest e some lacks = elim lacks [
-    inl x ↦ (let same : x.rest ≡ rest = rest_is 120 120 x.rest rest (sym x.spelled ∙ e) in
+  | inl x ↦ (let same : x.rest ≡ rest = rest_is 120 120 x.rest rest (sym x.spelled ∙ e) in
       omega (arith, no_digits_after 16 rest (subst (λ l. is_digit (get_or l 0 0) 16 ≡ false) same x.no_digit)))
-  | inr y ↦ omega (arith, second_is 111 120 y.rest rest (sym y.spelled ∙ e)) ]
+  | inr y ↦ omega (arith, second_is 111 120 y.rest rest (sym y.spelled ∙ e))
+]
 
 oct_has : (s rest : List ℕ) → unsigned s ≡ 48 ∷ 111 ∷ rest → 0 < digits_len 8 rest → LacksDigits s → ⊥
 oct_has s rest e some lacks = elim lacks [
-    inl x ↦ omega (arith, second_is 120 111 x.rest rest (sym x.spelled ∙ e))
+  | inl x ↦ omega (arith, second_is 120 111 x.rest rest (sym x.spelled ∙ e))
   | inr y ↦ (let same : y.rest ≡ rest = rest_is 111 111 y.rest rest (sym y.spelled ∙ e) in
-      omega (arith, no_digits_after 8 rest (subst (λ l. is_digit (get_or l 0 0) 8 ≡ false) same y.no_digit))) ]
+      omega (arith, no_digits_after 8 rest (subst (λ l. is_digit (get_or l 0 0) 8 ≡ false) same y.no_digit)))
+]
 
 dec_has : (s u : List ℕ) → unsigned s ≡ u → radix_of u ≡ 10 → LacksDigits s → ⊥
 dec_has s u e plain lacks = elim (lacks_named s u e lacks) [
-    inl hex ↦ omega (arith, named_hex u hex)
-  | inr oct ↦ omega (arith, named_oct u oct) ]
+  | inl hex ↦ omega (arith, named_hex u hex)
+  | inr oct ↦ omega (arith, named_oct u oct)
+]
 
 hex_says : (start sign at : ℕ) (negative : Bool) (s rest : List ℕ) → Signed s (48 ∷ 120 ∷ rest) sign negative → class_of (get_or s 0 0) ≡ Numbers → at ≡ start + sign →
     Says start s (integer_token start at (integer negative (48 ∷ 120 ∷ rest)))
 hex_says start sign at negative s rest g c place = elim (zero_or_some (digits_len 16 rest)) [
-    inl none ↦ lacking_says start at negative s (48 ∷ 120 ∷ rest)
+  | inl none ↦ lacking_says start at negative s (48 ∷ 120 ∷ rest)
       (inl (record { rest = rest; spelled = g.whole; no_digit = no_digit_first 16 rest refl none }))
       (integer-known negative (48 ∷ 120 ∷ rest) 16 refl ∙ integer-none negative (48 ∷ 120 ∷ rest) 16 none)
   | inr some ↦ known_says start sign at negative s (48 ∷ 120 ∷ rest) (2 + digits_len 16 rest) (digits_value 16 (take (digits_len 16 rest) rest)) g c place refl
       (hex_run rest some) (hex_has s rest g.whole some)
-      (integer-known negative (48 ∷ 120 ∷ rest) 16 refl ∙ integer-some negative (48 ∷ 120 ∷ rest) 16 some) ]
+      (integer-known negative (48 ∷ 120 ∷ rest) 16 refl ∙ integer-some negative (48 ∷ 120 ∷ rest) 16 some)
+]
 
 oct_says : (start sign at : ℕ) (negative : Bool) (s rest : List ℕ) → Signed s (48 ∷ 111 ∷ rest) sign negative → class_of (get_or s 0 0) ≡ Numbers → at ≡ start + sign →
     Says start s (integer_token start at (integer negative (48 ∷ 111 ∷ rest)))
 oct_says start sign at negative s rest g c place = elim (zero_or_some (digits_len 8 rest)) [
-    inl none ↦ lacking_says start at negative s (48 ∷ 111 ∷ rest)
+  | inl none ↦ lacking_says start at negative s (48 ∷ 111 ∷ rest)
       (inr (record { rest = rest; spelled = g.whole; no_digit = no_digit_first 8 rest refl none }))
       (integer-known negative (48 ∷ 111 ∷ rest) 8 refl ∙ integer-none negative (48 ∷ 111 ∷ rest) 8 none)
   | inr some ↦ known_says start sign at negative s (48 ∷ 111 ∷ rest) (2 + digits_len 8 rest) (digits_value 8 (take (digits_len 8 rest) rest)) g c place refl
       (oct_run rest some) (oct_has s rest g.whole some)
-      (integer-known negative (48 ∷ 111 ∷ rest) 8 refl ∙ integer-some negative (48 ∷ 111 ∷ rest) 8 some) ]
+      (integer-known negative (48 ∷ 111 ∷ rest) 8 refl ∙ integer-some negative (48 ∷ 111 ∷ rest) 8 some)
+]
 
 dec_says : (start sign at : ℕ) (negative : Bool) (s u : List ℕ) → Signed s u sign negative → class_of (get_or s 0 0) ≡ Numbers → at ≡ start + sign →
     0 < digits_len 10 u → float_tail_len (drop (digits_len 10 u) u) ≡ 0 → radix_of u ≡ 10 →
     Says start s (integer_token start at (integer negative u))
 dec_says start sign at negative s u g c place some tail plain =
     known_says start sign at negative s u (0 + digits_len 10 u) (digits_value 10 (take (digits_len 10 u) u)) g c place tail
-      (dec_run u plain some) (dec_has s u g.whole plain)
-      (integer-known negative u 10 plain ∙ integer-some negative u 10 some)
+    (dec_run u plain some) (dec_has s u g.whole plain)
+    (integer-known negative u 10 plain ∙ integer-some negative u 10 some)
 
 integer_says : (start sign at : ℕ) (negative : Bool) (s u : List ℕ) → Signed s u sign negative → class_of (get_or s 0 0) ≡ Numbers → at ≡ start + sign →
     0 < digits_len 10 u → float_tail_len (drop (digits_len 10 u) u) ≡ 0 → Says start s (integer_token start at (integer negative u))
 integer_says start sign at negative s u g c place some tail = elim (named_cases u) [
-    inl hex ↦ subst (λ v. Signed s v sign negative → Says start s (integer_token start at (integer negative v))) (sym hex.is)
+  | inl hex ↦ subst (λ v. Signed s v sign negative → Says start s (integer_token start at (integer negative v))) (sym hex.is)
       (λ h. hex_says start sign at negative s hex.rest h c place) g
   | inr o ↦ elim o [
-      inl oct ↦ subst (λ v. Signed s v sign negative → Says start s (integer_token start at (integer negative v))) (sym oct.is)
+    | inl oct ↦ subst (λ v. Signed s v sign negative → Says start s (integer_token start at (integer negative v))) (sym oct.is)
         (λ h. oct_says start sign at negative s oct.rest h c place) g
-    | inr plain ↦ dec_says start sign at negative s u g c place some tail plain ] ]
+    | inr plain ↦ dec_says start sign at negative s u g c place some tail plain
+  ]
+]
 
 -- ---- a number
 
 unsigned_says : (start sign at : ℕ) (negative : Bool) (s u : List ℕ) → Signed s u sign negative → class_of (get_or s 0 0) ≡ Numbers → at ≡ start + sign →
     Says start s (unsigned_at negative start at u)
 unsigned_says start sign at negative s u g c place = elim (zero_or_some (digits_len 10 u)) [
-    inl none ↦ (let bare : eqb (digits_len 10 u) 0 ≡ true = eq-eqb (digits_len 10 u) 0 none in
+  | inl none ↦ (let bare : eqb (digits_len 10 u) 0 ≡ true = eq-eqb (digits_len 10 u) 0 none in
       let b = bare_says start sign negative s u g c none in rw bare (refl, b.0, b.1))
   | inr some ↦
       (let digits : eqb (digits_len 10 u) 0 ≡ false = ne_eqb (digits_len 10 u) 0 (λ z. omega arith) in
-       elim (zero_or_some (float_tail_len (drop (digits_len 10 u) u))) [
-         inl none ↦ (let no_tail : ltb 0 (float_tail_len (drop (digits_len 10 u) u)) ≡ false = le-ltb 0 (float_tail_len (drop (digits_len 10 u) u)) (omega arith) in
-           rw (digits, no_tail) (integer_says start sign at negative s u g c place some none))
-       | inr tail ↦ (let a_tail : ltb 0 (float_tail_len (drop (digits_len 10 u) u)) ≡ true = lt-ltb 0 (float_tail_len (drop (digits_len 10 u) u)) tail in
-           rw (digits, a_tail) (float_token start sign at negative s u g c place some tail)) ]) ]
+      elim (zero_or_some (float_tail_len (drop (digits_len 10 u) u))) [
+        | inl none ↦ (let no_tail : ltb 0 (float_tail_len (drop (digits_len 10 u) u)) ≡ false = le-ltb 0 (float_tail_len (drop (digits_len 10 u) u)) (omega arith) in
+            rw (digits, no_tail) (integer_says start sign at negative s u g c place some none))
+        | inr tail ↦ (let a_tail : ltb 0 (float_tail_len (drop (digits_len 10 u) u)) ≡ true = lt-ltb 0 (float_tail_len (drop (digits_len 10 u) u)) tail in
+            rw (digits, a_tail) (float_token start sign at negative s u g c place some tail))
+      ])
+]
 
 -- where a digit or `-` stands in front, the number there is the answer, or why there is none
 pub number_says : (at : ℕ) (s : List ℕ) → class_of (get_or s 0 0) ≡ Numbers → Says at s (number_at at s)
 unfolding number_at
 number_says at [] c = (unsigned_says at 0 at false [] [] (without_sign [] refl) c (omega arith))
 number_says at (b ∷ u) c = elim (cases_Bool (eqb b 45)) [
-    inl minus ↦ rw minus (unsigned_says at 1 (at + 1) true (b ∷ u) u (subst (λ v. Signed (v ∷ u) u 1 true) (sym (eqb-true b 45 minus)) (with_minus u)) c refl)
-  | inr plain ↦ rw plain (unsigned_says at 0 at false (b ∷ u) (b ∷ u) (without_sign (b ∷ u) plain) c (omega arith)) ]
+  | inl minus ↦ rw minus (unsigned_says at 1 (at + 1) true (b ∷ u) u (subst (λ v. Signed (v ∷ u) u 1 true) (sym (eqb-true b 45 minus)) (with_minus u)) c refl)
+  | inr plain ↦ rw plain (unsigned_says at 0 at false (b ∷ u) (b ∷ u) (without_sign (b ∷ u) plain) c (omega arith))
+]

@@ -1,8 +1,8 @@
 -- Runs of bytes that pass a test.
-use Rattle.std.proofs.Common.{◌≡◌, ℕ, zero, suc, ◌+◌, ◌-◌, ◌<◌, ◌≤◌, Bool, true, false, cond, List, [], ◌∷◌, ◌++◌, length, take, drop, get_or, refl, sym, ◌∙◌, ap, subst, arith, rules, inl, inr}
-use Rattle.std.specs.List.{prefix_len, AllPass, All}
-use Rattle.std.proofs.lemmas.List.{length-take-le, get_or-take, get_or_default, take_at, get_or_append_left, length-append}
-use Rattle.std.proofs.lemmas.List.Sums.{prefix_len_passes, prefix_len_stops, prefix_len_is, prefix_len-le-length}
+use Rattle.std.proofs.Common.{◌≡◌, ℕ, zero, suc, ◌+◌, ◌<◌, ◌≤◌, Bool, true, false, List, [], ◌∷◌, ◌++◌, length, take, drop, get_or, refl, sym, ap, subst, arith, inl, inr}
+use Rattle.std.specs.List.{prefix_len, AllPass}
+use Rattle.std.proofs.lemmas.List.{length-take-le, get_or-take, take_at, length-append}
+use Rattle.std.proofs.lemmas.List.Sums.{prefix_len_passes, prefix_len_stops, prefix_len-le-length}
 use Rattle.std.proofs.lemmas.Bool.{both_ways, cases_lt}
 
 -- a list in two parts
@@ -23,12 +23,13 @@ run_passes p s k d h =
 pub passing_front : (p : ℕ → Bool) (s : List ℕ) (n : ℕ) → n ≤ length s → AllPass p (take n s) → n ≤ prefix_len p s
 passing_front p s n h all =
     elim (cases_lt (prefix_len p s) n) [
-      inl longer ↦
-        let len : length (take n s) ≡ n = length-take-le n s h in
-        let within : prefix_len p s < length s = omega arith in
-        let here : prefix_len p s < length (take n s) = omega arith in
-        absurd (both_ways _ (prefix_len_stops p s 0 within) (subst (λ x. p x ≡ true) (get_or-take n s (prefix_len p s) 0 longer) (all (prefix_len p s) 0 here)))
-    | inr shorter ↦ shorter ]
+      | inl longer ↦
+          let len : length (take n s) ≡ n = length-take-le n s h in
+          let within : prefix_len p s < length s = omega arith in
+          let here : prefix_len p s < length (take n s) = omega arith in
+          absurd (both_ways _ (prefix_len_stops p s 0 within) (subst (λ x. p x ≡ true) (get_or-take n s (prefix_len p s) 0 longer) (all (prefix_len p s) 0 here)))
+      | inr shorter ↦ shorter
+    ]
 
 -- elements that pass, in front of others
 pub passing_part : (p : ℕ → Bool) (ds rest : List ℕ) → AllPass p ds → length ds ≤ prefix_len p (ds ++ rest)

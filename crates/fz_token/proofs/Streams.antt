@@ -1,8 +1,8 @@
 -- The stream of a text, a token at a time.
-use Rattle.std.proofs.Common.{◌≡◌, ℕ, zero, suc, ◌+◌, ◌-◌, ◌<◌, ◌≤◌, Bool, true, false, List, [], ◌∷◌, length, drop, get_or, nat_lt, Result, Option, Some, None, Ok, Err, IfOk, refl, sym, ◌∙◌, ap, subst, arith, rules}
+use Rattle.std.proofs.Common.{◌≡◌, ℕ, zero, suc, ◌+◌, ◌-◌, ◌<◌, ◌≤◌, Bool, true, false, List, [], ◌∷◌, length, drop, get_or, nat_lt, Result, Ok, Err, IfOk, refl, sym, ◌∙◌, ap, subst, arith}
 use Rattle.std.proofs.lemmas.List.{drop-drop, drop_more}
 use Rattle.fz_token.specs.Gap.{gap_end}
-use Rattle.fz_token.specs.Stream.{Stream, stream_at, before, found, place_after, stream_from, stream_step, nothing, refused, with_token, led_by, start_after}
+use Rattle.fz_token.specs.Stream.{stream_at, before, found, place_after, stream_from, nothing, refused, with_token, led_by, start_after}
 use Rattle.fz_token.specs.Token.{token_at}
 use Rattle.fz_token.specs.declared.Token.{Token}
 use Rattle.fz_token.specs.declared.TokenRefusal.{TokenRefusal}
@@ -55,7 +55,7 @@ leads text place h =
     passes place text 0 place start
     ∙ ap (λ n. stream_from (drop place text) n place) z
     ∙ subst (λ s. stream_from s place place ≡ led_by (token_at place s) (λ end. stream_from (drop (place + 1) text) (place + 1) (gap_end end false (drop (end - place) s)))) (sym e)
-      (stream_reached (get_or text place 0) (drop (place + 1) text) place place (omega arith))
+    (stream_reached (get_or text place 0) (drop (place + 1) text) place place (omega arith))
 
 gap_end-ge : (s : List ℕ) (at : ℕ) (in_comment : Bool) → at ≤ gap_end at in_comment s
 gap_end-ge [] at in_comment = omega arith

@@ -1,13 +1,12 @@
 -- The string in front of some bytes is the one form there.
-use Rattle.std.proofs.Common.{◌≡◌, ◌≢◌, ℕ, zero, suc, ◌+◌, ◌-◌, ◌<◌, ◌≤◌, Bool, true, false, not, ◌&&◌, cond, eqb, List, [], ◌∷◌, ◌++◌, length, take, drop, get_or, Option, Some, None, Ok, Err, refl, sym, ◌∙◌, ap, subst, arith, rules, inl, inr, ◌==◌}
+use Rattle.std.proofs.Common.{◌≡◌, ◌≢◌, ℕ, suc, ◌+◌, ◌≤◌, Bool, true, false, not, ◌&&◌, cond, eqb, List, [], ◌∷◌, ◌++◌, length, take, drop, get_or, Option, Some, None, refl, sym, ◌∙◌, ap, subst, arith, ◌==◌}
 use Rattle.std.proofs.lemmas.List.{length-append, length-take-le, append_assoc, take-append-drop}
 use Rattle.std.proofs.lemmas.Bool.{both_ways, eqb-true, eqb-false, eq-eqb, ne_eqb, and_parts, and_left, and_right, and_from, not-true}
-use Rattle.std.proofs.lemmas.Bool.Decides.{nat_tests}
-use Rattle.fz_token.specs.Forms.{Spells, IsBody, IsString, Says, Stands, IsToken}
+use Rattle.fz_token.specs.Forms.{Spells, IsBody, IsString, Says}
 use Rattle.fz_token.specs.Quoted.{closed_len, quoted_token, quoted_at}
 use Rattle.fz_token.specs.declared.TokenKind.{TokenKind}
 use Rattle.fz_token.specs.declared.TokenKind.TheVariants as kind
-use Rattle.fz_token.proofs.Classes.{Class, Words, Numbers, Quotes, Marks, class_of, front_class, lacks_class}
+use Rattle.fz_token.proofs.Classes.{Words, Numbers, Quotes, Marks, class_of, front_class, lacks_class}
 
 stays_open : (b : ℕ) (taken : Bool) → (taken ≡ false → b ≢ 34) → (eqb b 34 && not taken) ≡ false
 stays_open b true h = and_right (eqb b 34) false refl
@@ -50,13 +49,13 @@ closes at taken b rest end q e =
 goes_on : (at : ℕ) (taken : Bool) (b : ℕ) (rest : List ℕ) (end : ℕ) → eqb b 10 ≡ false → (eqb b 34 && not taken) ≡ false →
     Closed (at + 1) ((b == 92) && not taken) rest end → Closed at taken (b ∷ rest) end
 goes_on at taken b rest end f q more = record {
-      body = b ∷ more.body;
-      len = suc more.len;
-      reaches = (let r : end ≡ at + 1 + more.len = more.reaches in omega arith);
-      within = (let r : more.len ≤ length rest = more.within in omega arith);
-      front = ap (λ l. b ∷ l) more.front;
-      is_body = (eqb-false b 10 f, λ free. not_quote b taken q free, more.is_body);
-    }
+  body = b ∷ more.body;
+  len = suc more.len;
+  reaches = (let r : end ≡ at + 1 + more.len = more.reaches in omega arith);
+  within = (let r : more.len ≤ length rest = more.within in omega arith);
+  front = ap (λ l. b ∷ l) more.front;
+  is_body = (eqb-false b 10 f, λ free. not_quote b taken q free, more.is_body);
+}
 
 closed_step : (at : ℕ) (taken : Bool) (b : ℕ) (rest : List ℕ) (end : ℕ) (f q : Bool) → eqb b 10 ≡ f → (eqb b 34 && not taken) ≡ q →
     cond f None (cond q (Some (at + 1)) (closed_len (at + 1) ((b == 92) && not taken) rest)) ≡ Some end →
@@ -70,7 +69,7 @@ closed_body : (at : ℕ) (taken : Bool) (s : List ℕ) (end : ℕ) → closed_le
 closed_body at taken [] end h = cc
 closed_body at taken (b ∷ rest) end h =
     closed_step at taken b rest end (eqb b 10) (eqb b 34 && not taken) refl refl h
-      (closed_body (at + 1) ((b == 92) && not taken) rest end)
+    (closed_body (at + 1) ((b == 92) && not taken) rest end)
 
 -- a string in front is closed where it ends
 string_closed : (b : ℕ) (rest : List ℕ) (n : ℕ) → n ≤ length (b ∷ rest) → IsString (take n (b ∷ rest)) →
@@ -79,10 +78,11 @@ string_closed b rest n within h =
     let whole : (34 ∷ (h.body ++ (34 ∷ []))) ++ drop n (b ∷ rest) ≡ b ∷ rest = ap (λ w. w ++ drop n (b ∷ rest)) (sym h.spelled) ∙ take-append-drop n (b ∷ rest) in
     let tail : (h.body ++ (34 ∷ [])) ++ drop n (b ∷ rest) ≡ rest = cc in
     let split : h.body ++ (34 ∷ drop n (b ∷ rest)) ≡ rest = sym (append_assoc h.body (34 ∷ []) (drop n (b ∷ rest))) ∙ tail in
-    let size : length (take n (b ∷ rest)) ≡ n = length-take-le n (b ∷ rest) within in
-    (0 + length h.body + 1,
-     subst (λ l. closed_len 0 false l ≡ Some (0 + length h.body + 1)) split (body_closed 0 false h.body (drop n (b ∷ rest)) h.is_body),
-     omega (arith, size, ap length h.spelled, length-append h.body (34 ∷ [])))
+    let size : length (take n (b ∷ rest)) ≡ n = length-take-le n (b ∷ rest) within in (
+      0 + length h.body + 1,
+      subst (λ l. closed_len 0 false l ≡ Some (0 + length h.body + 1)) split (body_closed 0 false h.body (drop n (b ∷ rest)) h.is_body),
+      omega (arith, size, ap length h.spelled, length-append h.body (34 ∷ [])),
+    )
 
 quotes_class : class_of 34 ≡ Quotes
 unfolding class_of
@@ -99,9 +99,12 @@ only_string s n (kind.Mark m) c h = let other : class_of (get_or s 0 0) ≡ Mark
 
 answer_says : (at b : ℕ) (rest : List ℕ) (o : Option ℕ) → b ≡ 34 → closed_len 0 false rest ≡ o → Says at (b ∷ rest) (quoted_token at o)
 answer_says at b rest None q e =
-    let c : class_of b ≡ Quotes = ap class_of q ∙ quotes_class in
-    (refl, q, λ n k within h. let found = string_closed b rest n within (only_string (b ∷ rest) n k c h) in
-      let some : closed_len 0 false rest ≡ Some found.0 = found.1 in cc)
+    let c : class_of b ≡ Quotes = ap class_of q ∙ quotes_class in (
+      refl,
+      q,
+      λ n k within h. let found = string_closed b rest n within (only_string (b ∷ rest) n k c h) in
+          let some : closed_len 0 false rest ≡ Some found.0 = found.1 in cc,
+    )
 answer_says at b rest (Some len) q e =
     let c : class_of b ≡ Quotes = ap class_of q ∙ quotes_class in
     let closed = closed_body 0 false rest len e in
@@ -117,14 +120,14 @@ answer_says at b rest (Some len) q e =
         spelled = record {
           body = closed.body;
           spelled = subst (λ x. x ∷ take len rest ≡ 34 ∷ (closed.body ++ (34 ∷ []))) (sym q)
-            (subst (λ l. 34 ∷ take l rest ≡ 34 ∷ (closed.body ++ (34 ∷ []))) equal (ap (λ l. 34 ∷ l) closed.front));
+              (subst (λ l. 34 ∷ take l rest ≡ 34 ∷ (closed.body ++ (34 ∷ []))) equal (ap (λ l. 34 ∷ l) closed.front));
           is_body = closed.is_body;
         };
         longest = λ n other within h. let found = string_closed b rest n within (only_string (b ∷ rest) n other c h) in
-          let some : closed_len 0 false rest ≡ Some found.0 = found.1 in
-          let same_len : found.0 ≡ len = cc in
-          let size : n ≡ suc found.0 = found.2 in
-          omega arith;
+            let some : closed_len 0 false rest ≡ Some found.0 = found.1 in
+            let same_len : found.0 ≡ len = cc in
+            let size : n ≡ suc found.0 = found.2 in
+            omega arith;
       };
       keeps_limit = tt;
       has_digits = λ lacks. let other : class_of b ≡ Numbers = lacks_class (b ∷ rest) lacks in cc;

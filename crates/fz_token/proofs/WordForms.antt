@@ -1,19 +1,17 @@
 -- The word in front of some bytes is the longest form there.
-use Rattle.std.proofs.Common.{◌≡◌, ℕ, zero, suc, ◌+◌, ◌<◌, ◌≤◌, Bool, true, false, cond, List, [], ◌∷◌, ◌++◌, length, take, drop, get_or, Option, Some, None, Ok, refl, sym, ◌∙◌, ap, subst, arith, rules, inl, inr}
-use Rattle.std.specs.Prelude.{find, bytes_eq, nat_abs}
-use Rattle.std.specs.List.{AllPass, prefix_len, list_all}
-use Rattle.std.proofs.lemmas.Bool.{cases_Bool, both_ways}
+use Rattle.std.proofs.Common.{◌≡◌, ℕ, ◌<◌, ◌≤◌, Bool, true, false, cond, List, [], ◌∷◌, length, take, get_or, Option, Some, None, Ok, refl, sym, ◌∙◌, ap, subst, arith}
+use Rattle.std.specs.Prelude.{find, bytes_eq}
+use Rattle.std.specs.List.{AllPass, list_all}
 use Rattle.std.proofs.lemmas.List.{get_or-take}
 use Rattle.std.proofs.lemmas.List.Sums.{prefix_len-le-length, AllPass-from_list_all}
 use Rattle.std.proofs.lemmas.Slice.Eq.{bytes_eq-Decides}
-use Rattle.fz_token.specs.Forms.{Spells, IsWord, Says, Stands, KeepsLimit, IsToken}
-use Rattle.fz_token.specs.Number.{limit}
+use Rattle.fz_token.specs.Forms.{Spells, IsWord, Says, KeepsLimit}
 use Rattle.fz_token.specs.Word.{begins_word, is_word_byte, spelling, keyword_of, all_keywords, word_len, word_kind, word_at}
 use Rattle.fz_token.specs.declared.Keyword.{Keyword}
 use Rattle.fz_token.specs.declared.Keyword.TheVariants as word
 use Rattle.fz_token.specs.declared.TokenKind.{TokenKind}
 use Rattle.fz_token.specs.declared.TokenKind.TheVariants as kind
-use Rattle.fz_token.proofs.Classes.{Class, Words, Numbers, Quotes, Marks, class_of, class_of_letter, front_class, lacks_class}
+use Rattle.fz_token.proofs.Classes.{Words, Numbers, Quotes, Marks, class_of, class_of_letter, front_class, lacks_class}
 use Rattle.fz_token.proofs.Runs.{run_passes, passing_front}
 
 keyword_found : (k : Keyword) → keyword_of (spelling k) ≡ Some k
@@ -80,7 +78,6 @@ letter_passes b h = grind arith
 some_word : (s : List ℕ) → begins_word (get_or s 0 0) ≡ true → 0 < word_len s
 some_word [] h = cc
 some_word (b ∷ s) h = let passes = letter_passes b h in rw passes (omega arith)
-
 
 longest_word : (s : List ℕ) (n : ℕ) (k : TokenKind) → class_of (get_or s 0 0) ≡ Words → n ≤ length s → Spells k (take n s) → n ≤ word_len s
 longest_word s n kind.Name c within h = passing_front is_word_byte s n within h.0.goes_on

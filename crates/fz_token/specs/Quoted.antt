@@ -1,5 +1,5 @@
 -- Strings.
-use Rattle.std.specs.Prelude.{ℕ, ◌+◌, Bool, true, false, not, ◌&&◌, if◌then◌else◌, ◌==◌, List, [], ◌∷◌, drop, Option, Some, None, Result, Ok, Err}
+use Rattle.std.specs.Prelude.{ℕ, ◌+◌, Bool, false, not, ◌&&◌, if◌then◌else◌, ◌==◌, List, [], ◌∷◌, drop, Option, Some, None, Result, Ok, Err}
 use Rattle.fz_token.specs.declared.Token.{Token}
 use Rattle.fz_token.specs.declared.TokenKind.TheVariants.{Quoted}
 use Rattle.fz_token.specs.declared.TokenRefusal.{TokenRefusal}

@@ -11,10 +11,9 @@ mod marks;
 mod number;
 mod quoted;
 mod scan;
-mod word;
-
 #[cfg(test)]
 mod tests;
+mod word;
 
 ghost use Rattle.std.specs.Prelude.{◌≡◌, ◌≤◌, length};
 

@@ -42,11 +42,21 @@ pub fn mark_at(text: &[u8], at: usize) -> Result<Token, TokenRefusal>
     ensures value { result ≡ spec.mark_at at text.now }
     ensures within { IfOk result (λ token. (at < token.end) × (token.end ≤ at + length text.now)) }
 {
-    if text.len() > 1 && let Some(mark) = double(text[0], text[1]) {
-        return Ok(Token { kind: TokenKind::Mark(mark), start: at, end: at + 2 });
+    if text.len() > 1
+        && let Some(mark) = double(text[0], text[1])
+    {
+        return Ok(Token {
+            kind: TokenKind::Mark(mark),
+            start: at,
+            end: at + 2,
+        });
     }
     match single(text[0]) {
-        Some(mark) => Ok(Token { kind: TokenKind::Mark(mark), start: at, end: at + 1 }),
+        Some(mark) => Ok(Token {
+            kind: TokenKind::Mark(mark),
+            start: at,
+            end: at + 1,
+        }),
         None => Err(TokenRefusal::BadByte(at)),
     }
 }

@@ -135,12 +135,7 @@ fn integer(text: &[u8], negative: bool) -> Option<(i64, usize)>
 }
 
 /// The number that begins at the place `start` and whose digits stand at `at`, at the front of `text`.
-fn unsigned_at(
-    text: &[u8],
-    negative: bool,
-    start: usize,
-    at: usize,
-) -> Result<Token, TokenRefusal>
+fn unsigned_at(text: &[u8], negative: bool, start: usize, at: usize) -> Result<Token, TokenRefusal>
     requires order { start ≤ at }
     requires room { at + length text.now < 2 ^ 64 }
     ensures value { result ≡ spec.unsigned_at negative start at text.now }
@@ -154,10 +149,18 @@ fn unsigned_at(
     let tail = float_tail_len(rest);
     if tail > 0 {
         let end = at + whole + tail;
-        return Ok(Token { kind: TokenKind::Float, start, end });
+        return Ok(Token {
+            kind: TokenKind::Float,
+            start,
+            end,
+        });
     }
     match integer(text, negative) {
-        Some((value, len)) => Ok(Token { kind: TokenKind::Integer(value), start, end: at + len }),
+        Some((value, len)) => Ok(Token {
+            kind: TokenKind::Integer(value),
+            start,
+            end: at + len,
+        }),
         None => Err(TokenRefusal::Number(start)),
     }
 }

@@ -31,7 +31,11 @@ pub fn quoted_at(text: &[u8], at: usize) -> Result<Token, TokenRefusal>
     ensures within { IfOk result (λ token. (at < token.end) × (token.end ≤ at + length text.now)) }
 {
     match closed_len(&text[1..]) {
-        Some(len) => Ok(Token { kind: TokenKind::Quoted, start: at, end: at + 1 + len }),
+        Some(len) => Ok(Token {
+            kind: TokenKind::Quoted,
+            start: at,
+            end: at + 1 + len,
+        }),
         None => Err(TokenRefusal::OpenString(at)),
     }
 }

@@ -85,5 +85,9 @@ pub fn word_at(text: &[u8], at: usize) -> Token
         Some(keyword) => TokenKind::Keyword(keyword),
         None => TokenKind::Name,
     };
-    Token { kind, start: at, end: at + len }
+    Token {
+        kind,
+        start: at,
+        end: at + len,
+    }
 }

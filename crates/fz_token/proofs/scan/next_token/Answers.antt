@@ -16,7 +16,7 @@ returns-clause-stream c =
     let is_token : c.token_at.result ≡ token_at start (drop start text) = c.token_at.ensures.value ∙ ap (token_at start) c.split_at.ensures.back in
     let is_found : c.map.result ≡ found c.token_at.result = search rules in
     subst (λ r. stream_at (record { text = text; at = c.args.at }) ≡ before r (stream_at (record { text = text; at = place_after r c.args.at }))) (sym is_found)
-      (stream_found text c.args.at start (length c.split_at.result.1.now) c.token_at.result c.gap_end-start.ensures.value is_left is_token c.token_at.ensures.within)
+    (stream_found text c.args.at start (length c.split_at.result.1.now) c.token_at.result c.gap_end-start.ensures.value is_left is_token c.token_at.ensures.within)
 
 pub returns-then-start-text-clause-table : goal.returns-then-start-text-clause-table
 returns-then-start-text-clause-table c = answer_says c.args.text.now c.args.at _ c.requires (search rules)
