@@ -75,7 +75,7 @@ take_two (b ∷ c ∷ s) h = refl
 
 -- ---- a front that is a mark passes one of the tests
 
-abbrev IsTested : List ℕ → ℕ → Mark → Type 0
+abbrev pub IsTested : List ℕ → ℕ → Mark → Type 0
 IsTested s n m = ((n ≡ 1) × (single (get_or s 0 0) ≡ Some m)) ⊎ ((n ≡ 2) × (double (get_or s 0 0) (get_or s 1 0) ≡ Some m))
 
 one_tested : (s : List ℕ) (n : ℕ) (m : Mark) (x : ℕ) → n ≤ length s → take n s ≡ x ∷ [] → single x ≡ Some m → IsTested s n m
@@ -91,7 +91,7 @@ two_tested s n m x y within e is =
     let second : get_or s 1 0 ≡ y = sym (get_or-take n s 1 0 (omega arith)) ∙ ap (λ w. get_or w 1 0) e in
     inr (size, ap (λ v. double v (get_or s 1 0)) first ∙ ap (double x) second ∙ is)
 
-front_tested : (s : List ℕ) (n : ℕ) (m : Mark) → n ≤ length s → take n s ≡ mark_spelling m → IsTested s n m
+pub front_tested : (s : List ℕ) (n : ℕ) (m : Mark) → n ≤ length s → take n s ≡ mark_spelling m → IsTested s n m
 front_tested s n mark.OpenRound h e = one_tested s n mark.OpenRound 40 h e refl
 front_tested s n mark.CloseRound h e = one_tested s n mark.CloseRound 41 h e refl
 front_tested s n mark.OpenSquare h e = one_tested s n mark.OpenSquare 91 h e refl

@@ -84,7 +84,7 @@ front_of s u sign n negative g some within =
     }
 
 -- a float in front has the digits and the tail that are found, at most
-float_front : (u w : List ℕ) (m : ℕ) → m ≤ length u → unsigned w ≡ take m u → IsFloat w →
+pub float_front : (u w : List ℕ) (m : ℕ) → m ≤ length u → unsigned w ≡ take m u → IsFloat w →
     (m ≤ digits_len 10 u + float_tail_len (drop (digits_len 10 u) u)) × (0 < float_tail_len (drop (digits_len 10 u) u))
 float_front u w m within e h =
     let more = drop m u in
@@ -105,7 +105,7 @@ float_front u w m within e h =
 
 -- ---- where no digit stands
 
-digit_run : (u : List ℕ) (m : ℕ) → is_digit (get_or (take m u) 0 0) 10 ≡ true → 0 < digits_len 10 u
+pub digit_run : (u : List ℕ) (m : ℕ) → is_digit (get_or (take m u) 0 0) 10 ≡ true → 0 < digits_len 10 u
 digit_run u zero h = let none : is_digit 0 10 ≡ false = refl in cc
 digit_run [] (suc m) h = let none : is_digit 0 10 ≡ false = refl in cc
 digit_run (b ∷ u) (suc m) h = rw h (omega arith)
@@ -141,7 +141,7 @@ hex_tail u h = ap (λ v. float_tail_len (drop (digits_len 10 v) v)) h.is
 oct_tail : (u : List ℕ) → Named 111 u → float_tail_len (drop (digits_len 10 u) u) ≡ 0
 oct_tail u h = ap (λ v. float_tail_len (drop (digits_len 10 v) v)) h.is
 
-natural_within : (u : List ℕ) (m n : ℕ) → 0 < digits_len 10 u → 0 < float_tail_len (drop (digits_len 10 u) u) → m ≤ length u → IsNatural (take m u) n → m ≤ digits_len 10 u
+pub natural_within : (u : List ℕ) (m n : ℕ) → 0 < digits_len 10 u → 0 < float_tail_len (drop (digits_len 10 u) u) → m ≤ length u → IsNatural (take m u) n → m ≤ digits_len 10 u
 natural_within u m n some tail within h = elim (named_cases u) [
   | inl hex ↦ absurd (omega (arith, hex_tail u hex))
   | inr o ↦ elim o [
@@ -295,10 +295,10 @@ no_digits_after : (radix : ℕ) (rest : List ℕ) → is_digit (get_or rest 0 0)
 no_digits_after radix [] h = refl
 no_digits_after radix (b ∷ rest) h = rw h refl
 
-second_is : (x y : ℕ) (r t : List ℕ) → 48 ∷ x ∷ r ≡ 48 ∷ y ∷ t → x ≡ y
+pub second_is : (x y : ℕ) (r t : List ℕ) → 48 ∷ x ∷ r ≡ 48 ∷ y ∷ t → x ≡ y
 second_is x y r t h = cc
 
-rest_is : (x y : ℕ) (r t : List ℕ) → 48 ∷ x ∷ r ≡ 48 ∷ y ∷ t → r ≡ t
+pub rest_is : (x y : ℕ) (r t : List ℕ) → 48 ∷ x ∷ r ≡ 48 ∷ y ∷ t → r ≡ t
 rest_is x y r t h = cc
 
 hex_has : (s rest : List ℕ) → unsigned s ≡ 48 ∷ 120 ∷ rest → 0 < digits_len 16 rest → LacksDigits s → ⊥

@@ -14,7 +14,7 @@ use Rattle.fz_token.specs.declared.TokenKind.TheVariants as kind
 use Rattle.fz_token.proofs.Classes.{Words, Numbers, Quotes, Marks, class_of, class_of_letter, front_class, lacks_class}
 use Rattle.fz_token.proofs.Runs.{run_passes, passing_front}
 
-keyword_found : (k : Keyword) → keyword_of (spelling k) ≡ Some k
+pub keyword_found : (k : Keyword) → keyword_of (spelling k) ≡ Some k
 unfolding keyword_of
 keyword_found word.Array = refl
 keyword_found word.Bool = refl
