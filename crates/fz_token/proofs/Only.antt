@@ -45,23 +45,30 @@ same_value radix m n ds es p q e = p ∙ ap (digits_value radix) e ∙ sym q
 
 decimal_only : (w : List ℕ) (m n : ℕ) → IsBased [] 10 w m → IsNatural w n → m ≡ n
 decimal_only w m n a h = elim h [
-    inl b ↦ same_value 10 m n a.digits b.digits a.value b.value (sym a.spelled ∙ b.spelled)
+  | inl b ↦ same_value 10 m n a.digits b.digits a.value b.value (sym a.spelled ∙ b.spelled)
   | inr o ↦ elim o [
-      inl x ↦ absurd (no_hex_digit (decimal_second 120 x.digits a.digits (sym x.spelled ∙ a.spelled) a.are_digits))
-    | inr y ↦ absurd (no_oct_digit (decimal_second 111 y.digits a.digits (sym y.spelled ∙ a.spelled) a.are_digits)) ] ]
+    | inl x ↦ absurd (no_hex_digit (decimal_second 120 x.digits a.digits (sym x.spelled ∙ a.spelled) a.are_digits))
+    | inr y ↦ absurd (no_oct_digit (decimal_second 111 y.digits a.digits (sym y.spelled ∙ a.spelled) a.are_digits))
+  ]
+]
 
 natural_only : (w : List ℕ) (m n : ℕ) → IsNatural w m → IsNatural w n → m ≡ n
 natural_only w m n g h = elim g [
-    inl a ↦ decimal_only w m n a h
+  | inl a ↦ decimal_only w m n a h
   | inr o ↦ elim h [
-      inl b ↦ sym (decimal_only w n m b (inr o))
+    | inl b ↦ sym (decimal_only w n m b (inr o))
     | inr p ↦ elim o [
-        inl x ↦ elim p [
-          inl z ↦ same_value 16 m n x.digits z.digits x.value z.value (rest_is 120 120 x.digits z.digits (sym x.spelled ∙ z.spelled))
-        | inr z ↦ absurd (omega (arith, second_is 120 111 x.digits z.digits (sym x.spelled ∙ z.spelled))) ]
+      | inl x ↦ elim p [
+        | inl z ↦ same_value 16 m n x.digits z.digits x.value z.value (rest_is 120 120 x.digits z.digits (sym x.spelled ∙ z.spelled))
+        | inr z ↦ absurd (omega (arith, second_is 120 111 x.digits z.digits (sym x.spelled ∙ z.spelled)))
+      ]
       | inr y ↦ elim p [
-          inl z ↦ absurd (omega (arith, second_is 111 120 y.digits z.digits (sym y.spelled ∙ z.spelled)))
-        | inr z ↦ same_value 8 m n y.digits z.digits y.value z.value (rest_is 111 111 y.digits z.digits (sym y.spelled ∙ z.spelled)) ] ] ] ]
+        | inl z ↦ absurd (omega (arith, second_is 111 120 y.digits z.digits (sym y.spelled ∙ z.spelled)))
+        | inr z ↦ same_value 8 m n y.digits z.digits y.value z.value (rest_is 111 111 y.digits z.digits (sym y.spelled ∙ z.spelled))
+      ]
+    ]
+  ]
+]
 
 integer_only : (w : List ℕ) (v u : ℤ) → IsInteger w v → IsInteger w u → v ≡ u
 integer_only w v u g h =
@@ -92,8 +99,9 @@ keyword_only w k l g h =
 
 mark_only : (s : List ℕ) (n : ℕ) (k l : Mark) → IsTested s n k → IsTested s n l → k ≡ l
 mark_only s n k l g h = elim g [
-    inl a ↦ elim h [ inl b ↦ (let p = a.1 in let q = b.1 in cc) | inr b ↦ absurd (omega (arith, a.0, b.0)) ]
-  | inr a ↦ elim h [ inl b ↦ absurd (omega (arith, a.0, b.0)) | inr b ↦ (let p = a.1 in let q = b.1 in cc) ] ]
+  | inl a ↦ elim h [ inl b ↦ (let p = a.1 in let q = b.1 in cc) | inr b ↦ absurd (omega (arith, a.0, b.0)) ]
+  | inr a ↦ elim h [ inl b ↦ absurd (omega (arith, a.0, b.0)) | inr b ↦ (let p = a.1 in let q = b.1 in cc) ]
+]
 
 same_class : (k l : TokenKind) (w : List ℕ) → Spells k w → Spells l w → kind_class k ≡ kind_class l
 same_class k l w g h = sym (spells_class k w g) ∙ spells_class l w h
@@ -185,18 +193,20 @@ lacks_minus second rest none = none 2 (kind.Integer (signed true 0)) (omega arit
 lacks_zero : (s : List ℕ) (second : ℕ) (rest : List ℕ) → unsigned s ≡ 48 ∷ second ∷ rest → NothingStands s → ⊥
 lacks_zero [] second rest e none = cc
 lacks_zero (b ∷ t) second rest e none = elim (cases_Bool (eqb b 45)) [
-    inl minus ↦
+  | inl minus ↦
       (let tail : t ≡ 48 ∷ second ∷ rest = rw minus at e in
-       let whole : b ∷ t ≡ 45 ∷ 48 ∷ second ∷ rest = ap (λ x. x ∷ t) (eqb-true b 45 minus) ∙ ap (λ l. 45 ∷ l) tail in
-       lacks_minus second rest (subst NothingStands whole none))
+      let whole : b ∷ t ≡ 45 ∷ 48 ∷ second ∷ rest = ap (λ x. x ∷ t) (eqb-true b 45 minus) ∙ ap (λ l. 45 ∷ l) tail in
+      lacks_minus second rest (subst NothingStands whole none))
   | inr plain ↦
       (let whole : b ∷ t ≡ 48 ∷ second ∷ rest = rw plain at e in
-       lacks_plain second rest (subst NothingStands whole none)) ]
+      lacks_plain second rest (subst NothingStands whole none))
+]
 
 has_no : (s : List ℕ) → LacksDigits s → NothingStands s → ⊥
 has_no s lacks none = elim lacks [
-    inl x ↦ lacks_zero s 120 x.rest x.spelled none
-  | inr y ↦ lacks_zero s 111 y.rest y.spelled none ]
+  | inl x ↦ lacks_zero s 120 x.rest x.spelled none
+  | inr y ↦ lacks_zero s 111 y.rest y.spelled none
+]
 
 -- ---- one answer
 
@@ -208,13 +218,15 @@ too_large_kind v k e keeps beyond = let within : nat_abs v ≤ limit = subst Kee
 
 token_number : (at : ℕ) (s : List ℕ) (token : Token) → IsToken at s token → LacksDigits s ⊎ IsTooLarge s → ⊥
 token_number at s token g h = elim h [
-    inl lacks ↦ g.has_digits lacks
-  | inr large ↦ too_large_kind large.value token.kind (same_kind s (kind.Integer large.value) token.kind large.len g.len large.stands g.stands) g.keeps_limit large.beyond ]
+  | inl lacks ↦ g.has_digits lacks
+  | inr large ↦ too_large_kind large.value token.kind (same_kind s (kind.Integer large.value) token.kind large.len g.len large.stands g.stands) g.keeps_limit large.beyond
+]
 
 none_number : (s : List ℕ) → NothingStands s → LacksDigits s ⊎ IsTooLarge s → ⊥
 none_number s none h = elim h [
-    inl lacks ↦ has_no s lacks none
-  | inr large ↦ stands_none s (kind.Integer large.value) large.len large.stands none ]
+  | inl lacks ↦ has_no s lacks none
+  | inr large ↦ stands_none s (kind.Integer large.value) large.len large.stands none
+]
 
 token_of : TokenKind → ℕ → ℕ → Token
 token_of k start end = record { kind = k; start = start; end = end }
@@ -227,7 +239,7 @@ token_only : (at : ℕ) (s : List ℕ) (t u : Token) → IsToken at s t → IsTo
 token_only at s t u g h =
     let len : g.len ≡ h.len = same_len s t.kind u.kind g.len h.len g.stands h.stands in
     token_same t u (same_kind s t.kind u.kind g.len h.len g.stands h.stands) (g.starts ∙ sym h.starts)
-      (g.ends ∙ ap (λ n. at + n) len ∙ sym h.ends)
+    (g.ends ∙ ap (λ n. at + n) len ∙ sym h.ends)
 
 pub says_only : (at : ℕ) (s : List ℕ) (a b : Result Token TokenRefusal) → Says at s a → Says at s b → a ≡ b
 says_only at s (Ok t) (Ok u) g h = ap (λ x. Ok x) (token_only at s t u g h)

@@ -24,3 +24,11 @@ pub record IsNext (r : Reading) (answer : Result (Option Token) TokenRefusal) : 
   pub start : ℕ
   pub ends_gap : EndsGap r.text r.at start
   pub says : SaysAt start r.text answer
+
+-- no other answer is one behind the place
+abbrev pub IsOnlyNext : Reading → Result (Option Token) TokenRefusal → Type 0
+IsOnlyNext r answer = (other : Result (Option Token) TokenRefusal) → IsNext r other → other ≡ answer
+
+-- blanks and comments alone are left
+abbrev pub IsUsedUp : Reading → Type 0
+IsUsedUp r = IsGap (drop r.at r.text)

@@ -125,8 +125,8 @@ impl<'a> Model for Tokens<'a> {
 }
 
 impl<'a> Tokens<'a> {
-    ghost use Rattle.std.specs.Prelude.{◌<◌, IfOk, IfSome};
-    ghost use Rattle.fz_token.specs.Next.{IsNext};
+    ghost use Rattle.std.specs.Prelude.{◌<◌, ◌↔◌, IfOk, IfSome};
+    ghost use Rattle.fz_token.specs.Next.{IsNext, IsOnlyNext, IsUsedUp};
     ghost use Rattle.fz_token.specs.Stream.{next_of, place_after, stream_at, before};
 
     /// The tokens from the first byte of `text` on.
@@ -142,18 +142,20 @@ impl<'a> Tokens<'a> {
         ensures answer { result ≡ next_of self.old }
         ensures place { self.new ≡ record self.old { at = place_after result self.old.at } }
 
-        // The same answer in the words of the table of forms, and for all tokens at once.
+        // It is the one answer that the table of forms gives.
         ensures table { IsNext self.old result }
-        ensures stream { stream_at self.old ≡ before result (stream_at self.new) }
+        ensures only { IsOnlyNext self.old result }
+        ensures end { (result ≡ Ok None) ↔ IsUsedUp self.old }
 
-        // So a text is used up.
+        // One call after another gives the tokens of the text, and uses it up.
+        ensures stream { stream_at self.old ≡ before result (stream_at self.new) }
         ensures progress { IfOk result (λ next. IfSome next (λ token.
             (self.old.at < token.end) × (token.end ≤ length self.old.text))) }
     {
-        let next = scan::next_token(self.text, self.at)?;
-        if let Some(token) = next {
+        let next = scan::next_token(self.text, self.at);
+        if let Ok(Some(token)) = next {
             self.at = token.end;
         }
-        Ok(next)
+        next
     }
 }

@@ -1,7 +1,7 @@
 //! The next token of a text.
 
-ghost use Rattle.std.specs.Prelude.{◌≡◌, ◌≤◌, ◌<◌, ◌+◌, ◌^◌, length, IfOk, IfSome};
-ghost use Rattle.fz_token.specs.Next.{IsNext};
+ghost use Rattle.std.specs.Prelude.{◌≡◌, ◌≤◌, ◌<◌, ◌+◌, ◌^◌, ◌↔◌, length, IfOk, IfSome};
+ghost use Rattle.fz_token.specs.Next.{IsNext, IsOnlyNext, IsUsedUp};
 ghost use Rattle.fz_token.specs.Stream.{next_of, stream_at, before, place_after};
 ghost use Rattle.fz_token.specs.Token as spec;
 
@@ -35,6 +35,8 @@ pub fn next_token(text: &[u8], at: usize) -> Result<Option<Token>, TokenRefusal>
     ensures stream { stream_at (record { text = text.now; at = at })
         ≡ before result (stream_at (record { text = text.now; at = place_after result at })) }
     ensures table { IsNext (record { text = text.now; at = at }) result }
+    ensures only { IsOnlyNext (record { text = text.now; at = at }) result }
+    ensures end { (result ≡ Ok None) ↔ IsUsedUp (record { text = text.now; at = at }) }
     ensures within { IfOk result (λ next. IfSome next (λ token. (at < token.end) × (token.end ≤ length text.now))) }
 {
     let start = gap_end(text, at);

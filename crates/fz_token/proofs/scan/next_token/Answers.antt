@@ -1,7 +1,9 @@
 use Rattle.std.proofs.Common.{◌≡◌, ◌<◌, length, drop, sym, ◌∙◌, ap, subst, arith, rules}
 use Rattle.fz_token.specs.Stream.{start_after, found, stream_at, before, place_after}
 use Rattle.fz_token.specs.Token.{token_at}
+use Rattle.fz_token.proofs.Ends.{next_end}
 use Rattle.fz_token.proofs.Nexts.{answer_says}
+use Rattle.fz_token.proofs.Only.{next_only}
 use Rattle.fz_token.proofs.Streams.{stream_ends, stream_found}
 use Rattle.fz_token.proofs.scan.next_token.Goals as goal
 
@@ -21,5 +23,19 @@ returns-clause-stream c =
 pub returns-then-start-text-clause-table : goal.returns-then-start-text-clause-table
 returns-then-start-text-clause-table c = answer_says c.args.text.now c.args.at _ c.requires (search rules)
 
+pub returns-then-start-text-clause-only : goal.returns-then-start-text-clause-only
+returns-then-start-text-clause-only c =
+    λ other h. next_only (record { text = c.args.text.now; at = c.args.at }) other _ h (answer_says c.args.text.now c.args.at _ c.requires (search rules))
+
+pub returns-then-start-text-clause-end : goal.returns-then-start-text-clause-end
+returns-then-start-text-clause-end c = next_end (record { text = c.args.text.now; at = c.args.at }) _ (answer_says c.args.text.now c.args.at _ c.requires (search rules))
+
 pub returns-clause-table : goal.returns-clause-table
 returns-clause-table c = answer_says c.args.text.now c.args.at c.map.result c.requires (search rules)
+
+pub returns-clause-only : goal.returns-clause-only
+returns-clause-only c =
+    λ other h. next_only (record { text = c.args.text.now; at = c.args.at }) other c.map.result h (answer_says c.args.text.now c.args.at c.map.result c.requires (search rules))
+
+pub returns-clause-end : goal.returns-clause-end
+returns-clause-end c = next_end (record { text = c.args.text.now; at = c.args.at }) c.map.result (answer_says c.args.text.now c.args.at c.map.result c.requires (search rules))
