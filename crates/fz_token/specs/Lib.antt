@@ -1,0 +1,10 @@
+pub mod Forms
+pub mod Gap
+pub mod Mark
+pub mod Next
+pub mod Number
+pub mod Quoted
+pub mod Reading
+pub mod Stream
+pub mod Token
+pub mod Word
