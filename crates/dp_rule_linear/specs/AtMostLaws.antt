@@ -12,7 +12,7 @@ use Rattle.dp_rule_linear.specs.AtMost.{ClashesAtMost, MeetsAtMost, face_at_most
 use Rattle.dp_rule_linear.specs.FormLaws.{in_force-fixed, in_force-from_fixed, in_force-local, in_force-sound, in_force-within, least_sum-bound, least_sum-fixed, least_sum-local, least_sum-within, test_cases, test_dead, test_over, variable_in_scope}
 use Rattle.dp_rule_linear.specs.Forms.{Linear, Fails, in_force, least_sum, scope_of, sum_at, variables, with_condition}
 use Rattle.dp_rule_linear.specs.IntLaws.{order_of}
-use Rattle.dp_rule_linear.specs.ScopeLaws.{climbs_in_order}
+use Rattle.dp_base.proofs.ScopeLaws.{climbs_in_order}
 
 over : (x y : ℤ) → int_lt x y ≡ true → x <ℤ y
 over x y e = omega (arith, ints)

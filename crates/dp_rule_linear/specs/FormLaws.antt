@@ -12,8 +12,8 @@ use Rattle.dp_domain.specs.States.{Domains, LiesIn, IsWithin, is_dead, values, e
 use Rattle.dp_domain.specs.Faces.{AgreesOn, Covers, Fixes}
 use Rattle.dp_domain.proofs.StateLaws.{LiesIn-entails, alive-value, entails-within}
 use Rattle.dp_rule_linear.specs.Forms.{Linear, Fails, in_force, least_product, least_sum, product, scope_of, sum_at, total, variables, with_condition}
-use Rattle.dp_rule_linear.specs.Scopes.{in_order}
-use Rattle.dp_rule_linear.specs.ScopeLaws.{among_in_order}
+use Rattle.dp_base.specs.Scopes.{in_order}
+use Rattle.dp_base.proofs.ScopeLaws.{among_in_order}
 use Rattle.dp_rule_linear.specs.IntLaws.{Among-map, least_image-bound, least_image-within}
 
 -- ---- tests

@@ -4,7 +4,7 @@ use Rattle.dp_base.specs.Lists.{Among, Each}
 use Rattle.dp_domain.specs.Atoms.{Atomic, meets}
 use Rattle.dp_domain.specs.Sets.{least}
 use Rattle.dp_domain.specs.States.{Domains, values, entails}
-use Rattle.dp_rule_linear.specs.Scopes.{in_order}
+use Rattle.dp_base.specs.Scopes.{in_order}
 
 -- an atom that the constraint waits for, if any; terms, each a coefficient and a variable; and a number
 pub record Linear : Type 0 where
