@@ -1,7 +1,9 @@
 pub mod AtomLaws
 pub mod BoundLaws
 pub mod IntervalLaws
+pub mod ConditionLaws
 pub mod ScopeLaws
 pub mod SetLaws
 pub mod SetSteps
+pub mod ShareLaws
 pub mod StateLaws

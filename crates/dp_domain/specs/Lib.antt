@@ -2,3 +2,4 @@ pub mod Atoms
 pub mod Sets
 pub mod States
 pub mod Faces
+pub mod Conditions

@@ -1,6 +1,7 @@
 -- Finite sets of integers, as their values in ascending order.
-use Rattle.std.specs.Prelude.{◌≡◌, ◌^◌, Option, Some, None, Bool, if◌then◌else◌, List, [], ◌∷◌, ◌++◌, ℤ, pos, neg_ℤ, ◌+ℤ◌, ◌≤ℤ◌, ◌<ℤ◌, int_le}
+use Rattle.std.specs.Prelude.{◌≡◌, ◌^◌, Option, Some, None, Bool, ◌&&◌, if◌then◌else◌, List, [], ◌∷◌, ◌++◌, ℤ, pos, neg_ℤ, ◌+ℤ◌, ◌≤ℤ◌, ◌<ℤ◌, int_le}
 use Rattle.std.specs.Int.{int_min, int_max}
+use Rattle.std.specs.List.{list_any}
 use Rattle.dp_base.specs.Lists.{Among, Each}
 
 -- each value is less than all that follow it
@@ -78,3 +79,11 @@ abbrev pub with_later : List (ℤ × ℤ) → ℤ → List (ℤ × ℤ)
 with_later [] v = (v, v) ∷ []
 with_later (i ∷ []) v = if is_next i.1 v then (i.0, v) ∷ [] else i ∷ (v, v) ∷ []
 with_later (i ∷ j ∷ is) v = i ∷ with_later (j ∷ is) v
+
+-- whether the number is one of these
+abbrev pub is_among : ℤ → List ℤ → Bool
+is_among v xs = list_any (λ w. int_le v w && int_le w v) xs
+
+-- whether some number is in both
+abbrev pub share : List ℤ → List ℤ → Bool
+share xs ys = list_any (λ v. is_among v ys) xs

@@ -1,12 +1,13 @@
 // Atomic constraints.
 
-ghost use Rattle.std.specs.Prelude.{◌≡◌, ◌↔◌, IsSome, IfSome};
+ghost use Rattle.std.specs.Prelude.{◌≡◌, ◌↔◌, IsSome, IfSome, pos};
+ghost use Rattle.dp_domain.specs.declared.atom.Op.TheVariants.{Ge};
 ghost use Rattle.dp_domain.specs.Atoms.{Atomic, IsNameable, meets, negated, opposite};
 
 use std::marker::Model;
 
 /// A variable, by its place in the order of declaration.
-#[derive(Clone, Copy, Debug, PartialEq, Eq, PartialOrd, Ord, Hash)]
+#[derive(Clone, Copy, Debug, Default, PartialEq, Eq, PartialOrd, Ord, Hash)]
 pub struct VarId(pub u32);
 
 impl Model for VarId {
@@ -20,7 +21,7 @@ impl Model for VarId {
 }
 
 /// How an atom compares its variable with its number.
-#[derive(Clone, Copy, Debug, PartialEq, Eq)]
+#[derive(Clone, Copy, Debug, PartialEq, Eq, PartialOrd, Ord)]
 pub enum Op {
     Ge,
     Le,
@@ -43,8 +44,8 @@ impl Op {
 }
 
 /// An atomic constraint `[x >= v]`, `[x <= v]`, `[x == v]` or `[x != v]`. It names no number whose
-/// negation could not be named too.
-#[derive(Clone, Copy, Debug, PartialEq, Eq)]
+/// negation could not be named too. Atoms are ordered by variable, comparison and number.
+#[derive(Clone, Copy, Debug, PartialEq, Eq, PartialOrd, Ord)]
 pub struct Atom {
     var: VarId,
     op: Op,
@@ -61,6 +62,19 @@ impl Model for Atom {
     ghost invariant = { λ a. IsNameable a.op a.value };
 
     ghost inverse = { λ a. record { var = a.var; op = a.op; value = a.value } };
+}
+
+impl Default for Atom {
+    ghost is_default = { λ a. a ≡ record { var = 0; op = Ge; value = pos 0 } };
+
+    /// The atom `[x >= 0]` of the first variable.
+    fn default() -> Atom {
+        Atom {
+            var: VarId(0),
+            op: Op::Ge,
+            value: 0,
+        }
+    }
 }
 
 const LARGEST: i64 = 1_000_000_000_000_000_000;

@@ -4,7 +4,7 @@ ghost use Rattle.std.specs.Prelude.{◌≡◌, ◌&&◌, ◌==◌, ◌≤ℤ◌,
 ghost use Rattle.std.specs.List.{list_all};
 ghost use Rattle.dp_base.specs.Lists.{Among, Each};
 ghost use Rattle.dp_domain.specs.Atoms.{meets};
-ghost use Rattle.dp_domain.specs.Sets.{AreApart, Collects, IsAscending, IsDomain, IsFollowed, IsSmall, LiesBetween, LiesInOne, greatest, intervals_of, least, with_later};
+ghost use Rattle.dp_domain.specs.Sets.{AreApart, Collects, IsAscending, IsDomain, IsFollowed, IsSmall, LiesBetween, LiesInOne, greatest, intervals_of, is_among, least, share, with_later};
 ghost use Rattle.dp_domain.specs.States.{fails_one, is_nil};
 
 use crate::{Atom, Memory, VarId};
@@ -122,6 +122,20 @@ impl Dom {
     {
         intervals(alloc, self.values.as_slice())
     }
+
+    /// Whether some number is in both sets.
+    pub fn shares(&self, other: &Dom) -> bool
+        ensures { result ≡ share self.now other.now }
+    {
+        self.values.iter().any(|value| is_among(*value, other))
+    }
+}
+
+/// Whether the number is in the set.
+fn is_among(number: i64, set: &Dom) -> bool
+    ensures { result ≡ is_among number set.now }
+{
+    set.has(number)
 }
 
 /// The numbers from the first to the last, after the values that are there.

@@ -8,10 +8,12 @@ use Rattle.dp_base.proofs.Lists.{Among-get_or, Each-among, Each-from_among, Each
 use Rattle.dp_domain.specs.Atoms.{Atomic}
 use Rattle.dp_domain.specs.Faces.{Covers}
 use Rattle.dp_domain.specs.States.{Domains}
-use Rattle.dp_rule_linear.specs.FormLaws.{condition_in_scope, variable_in_scope}
-use Rattle.dp_rule_linear.specs.Forms.{IsApart, IsGoodAt, IsProper, Linear, scope_of, term_at, variables, with_condition}
-use Rattle.dp_rule_linear.specs.Scopes.{in_order, with_variable}
-use Rattle.dp_rule_linear.specs.ScopeLaws.{IsBefore, IsSame, in_order-climbing, order_of, with_variable-after, with_variable-before, with_variable-same}
+use Rattle.dp_domain.proofs.ConditionLaws.{condition_in_scope}
+use Rattle.dp_rule_linear.specs.FormLaws.{variable_in_scope}
+use Rattle.dp_domain.specs.Conditions.{IsApart, with_condition}
+use Rattle.dp_rule_linear.specs.Forms.{IsGoodAt, IsProper, Linear, scope_of, term_at, variables}
+use Rattle.dp_base.specs.Scopes.{in_order, with_variable}
+use Rattle.dp_base.proofs.ScopeLaws.{IsBefore, IsSame, in_order-climbing, order_of, with_variable-after, with_variable-before, with_variable-same}
 
 -- ---- the variables of good terms
 

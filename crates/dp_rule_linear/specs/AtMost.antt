@@ -2,7 +2,8 @@
 use Rattle.std.specs.Prelude.{◌≡◌, ℕ, Bool, true, false, ◌&&◌, ◌||◌, ◌⊎◌, ℤ, ◌≤ℤ◌, ◌<ℤ◌, int_lt}
 use Rattle.dp_domain.specs.Faces.{Face}
 use Rattle.dp_domain.specs.States.{Domains, is_dead}
-use Rattle.dp_rule_linear.specs.Forms.{Linear, Fails, in_force, least_sum, scope_of, sum_at}
+use Rattle.dp_domain.specs.Conditions.{Fails, in_force}
+use Rattle.dp_rule_linear.specs.Forms.{Linear, least_sum, scope_of, sum_at}
 
 -- the condition fails, or the sum is at most the number
 abbrev pub MeetsAtMost : Linear → (ℕ → ℤ) → Type 0

@@ -9,10 +9,12 @@ use Rattle.dp_domain.specs.Faces.{AgreesOn, Covers, Fixes, IsLawful}
 use Rattle.dp_domain.specs.States.{Domains, LiesIn, IsWithin, is_dead, values}
 use Rattle.dp_domain.proofs.StateLaws.{LiesIn-alive, dead-within}
 use Rattle.dp_rule_linear.specs.AtMost.{ClashesAtMost, MeetsAtMost, face_at_most, test_at_most}
-use Rattle.dp_rule_linear.specs.FormLaws.{in_force-fixed, in_force-from_fixed, in_force-local, in_force-sound, in_force-within, least_sum-bound, least_sum-fixed, least_sum-local, least_sum-within, test_cases, test_dead, test_over, variable_in_scope}
-use Rattle.dp_rule_linear.specs.Forms.{Linear, Fails, in_force, least_sum, scope_of, sum_at, variables, with_condition}
+use Rattle.dp_domain.proofs.ConditionLaws.{in_force-fixed, in_force-from_fixed, in_force-local, in_force-sound, in_force-within, test_cases, test_dead, test_over}
+use Rattle.dp_rule_linear.specs.FormLaws.{least_sum-bound, least_sum-fixed, least_sum-local, least_sum-within, variable_in_scope}
+use Rattle.dp_domain.specs.Conditions.{Fails, in_force, with_condition}
+use Rattle.dp_rule_linear.specs.Forms.{Linear, least_sum, scope_of, sum_at, variables}
 use Rattle.dp_rule_linear.specs.IntLaws.{order_of}
-use Rattle.dp_rule_linear.specs.ScopeLaws.{climbs_in_order}
+use Rattle.dp_base.proofs.ScopeLaws.{climbs_in_order}
 
 over : (x y : ℤ) → int_lt x y ≡ true → x <ℤ y
 over x y e = omega (arith, ints)

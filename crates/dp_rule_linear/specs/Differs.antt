@@ -4,7 +4,8 @@ use Rattle.std.specs.List.{list_any, list_all}
 use Rattle.dp_base.specs.Lists.{Among, Each}
 use Rattle.dp_domain.specs.Faces.{Face}
 use Rattle.dp_domain.specs.States.{Domains, is_dead, values}
-use Rattle.dp_rule_linear.specs.Forms.{Linear, Fails, in_force, least_sum, scope_of, sum_at, variables}
+use Rattle.dp_domain.specs.Conditions.{Fails, in_force}
+use Rattle.dp_rule_linear.specs.Forms.{Linear, least_sum, scope_of, sum_at, variables}
 
 -- the condition fails, or the sum differs from the number
 abbrev pub MeetsDiffers : Linear → (ℕ → ℤ) → Type 0

@@ -12,10 +12,12 @@ use Rattle.dp_domain.specs.Sets.{least}
 use Rattle.dp_domain.specs.States.{Domains, LiesIn, IsWithin, is_dead, values}
 use Rattle.dp_domain.proofs.StateLaws.{LiesIn-alive, alive-value, dead-within}
 use Rattle.dp_rule_linear.specs.Differs.{ClashesDiffers, IsFixedAt, IsOnly, MeetsDiffers, are_single, face_differs, is_same, is_single, test_differs}
-use Rattle.dp_rule_linear.specs.FormLaws.{in_force-fixed, in_force-from_fixed, in_force-local, in_force-sound, in_force-within, least_sum-local, test_cases, test_dead, test_over, total-same, variable_in_scope, variable_of}
-use Rattle.dp_rule_linear.specs.Forms.{Linear, Fails, in_force, least_product, least_sum, product, scope_of, sum_at, variables, with_condition}
+use Rattle.dp_domain.proofs.ConditionLaws.{in_force-fixed, in_force-from_fixed, in_force-local, in_force-sound, in_force-within, test_cases, test_dead, test_over}
+use Rattle.dp_rule_linear.specs.FormLaws.{least_sum-local, total-same, variable_in_scope, variable_of}
+use Rattle.dp_domain.specs.Conditions.{Fails, in_force, with_condition}
+use Rattle.dp_rule_linear.specs.Forms.{Linear, least_product, least_sum, product, scope_of, sum_at, variables}
 use Rattle.dp_rule_linear.specs.IntLaws.{Among-map_only, least_image-among}
-use Rattle.dp_rule_linear.specs.ScopeLaws.{climbs_in_order}
+use Rattle.dp_base.proofs.ScopeLaws.{climbs_in_order}
 
 -- ---- equal numbers
 

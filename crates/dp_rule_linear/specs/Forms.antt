@@ -1,10 +1,11 @@
 -- Linear forms with a condition: what the two kinds of linear constraints share.
 use Rattle.std.specs.Prelude.{◌≡◌, ◌≢◌, ℕ, suc, ◌+◌, ◌^◌, ◌<◌, ◌≤◌, Option, Some, None, Bool, true, false, unwrap_or, List, [], ◌∷◌, length, map, get_or, ℤ, pos, neg_ℤ, ◌+ℤ◌, ◌*ℤ◌, ◌≤ℤ◌}
 use Rattle.dp_base.specs.Lists.{Among, Each}
-use Rattle.dp_domain.specs.Atoms.{Atomic, meets}
+use Rattle.dp_domain.specs.Atoms.{Atomic}
+use Rattle.dp_domain.specs.Conditions.{IsApart, with_condition}
 use Rattle.dp_domain.specs.Sets.{least}
-use Rattle.dp_domain.specs.States.{Domains, values, entails}
-use Rattle.dp_rule_linear.specs.Scopes.{in_order}
+use Rattle.dp_domain.specs.States.{Domains, values}
+use Rattle.dp_base.specs.Scopes.{in_order}
 
 -- an atom that the constraint waits for, if any; terms, each a coefficient and a variable; and a number
 pub record Linear : Type 0 where
@@ -37,33 +38,13 @@ least_product d t = unwrap_or (least (products d t)) (pos 0)
 abbrev pub least_sum : Domains → List (ℤ × ℕ) → ℤ
 least_sum d ts = total (least_product d) ts
 
--- whether the condition is absent or entailed
-abbrev pub in_force : Domains → Option Atomic → Bool
-in_force d None = true
-in_force d (Some a) = entails d a
-
--- the condition is there, and the assignment fails it
-abbrev pub Fails : (ℕ → ℤ) → Option Atomic → Type 0
-Fails s None = ⊥
-Fails s (Some a) = meets a (s a.var) ≡ false
-
 -- the variables of the terms
 abbrev pub variables : List (ℤ × ℕ) → List ℕ
 variables ts = map (λ t. t.1) ts
 
--- these variables and that of the condition
-abbrev pub with_condition : Option Atomic → List ℕ → List ℕ
-with_condition None xs = xs
-with_condition (Some a) xs = a.var ∷ xs
-
 -- the variables of the constraint, each once, in order of declaration
 abbrev pub scope_of : Linear → List ℕ
 scope_of q = in_order (with_condition q.condition (variables q.terms))
-
--- the condition's variable is none of these
-abbrev pub IsApart : Option Atomic → List ℕ → Type 0
-IsApart None xs = Unit {0}
-IsApart (Some a) xs = ¬ (Among a.var xs)
 
 -- the number lies within plus and minus the bound
 abbrev pub IsBounded : ℕ → ℤ → Type 0

@@ -1,9 +1,7 @@
-pub mod Scopes
 pub mod Forms
 pub mod Refusals
 pub mod AtMost
 pub mod Differs
-pub mod ScopeLaws
 pub mod IntLaws
 pub mod FormLaws
 pub mod AtMostLaws

@@ -1,6 +1,7 @@
 -- Which refusal the constructors give: the first in their order that applies.
 use Rattle.std.specs.Prelude.{ℕ, ◌^◌, ◌<◌, ◌≤◌, List, length, ℤ}
-use Rattle.dp_rule_linear.specs.Forms.{Linear, IsApart, IsBounded, IsGoodAt, variables}
+use Rattle.dp_domain.specs.Conditions.{IsApart}
+use Rattle.dp_rule_linear.specs.Forms.{Linear, IsBounded, IsGoodAt, variables}
 use Rattle.dp_rule_linear.specs.declared.refusal.LinRefusal.{LinRefusal}
 use Rattle.dp_rule_linear.specs.declared.refusal.LinRefusal.TheVariants.{TooMany, BadTerm, BadRhs, BadCondition}
 

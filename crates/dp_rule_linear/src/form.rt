@@ -3,7 +3,8 @@
 ghost use Rattle.std.specs.Prelude.{◌≡◌, ℕ, ◌+◌, ◌<◌, Some, IfOk, IfErr, length, slice_get};
 ghost use Rattle.dp_base.specs.Lists.{Each};
 ghost use Rattle.dp_domain.specs.Faces.{Covers};
-ghost use Rattle.dp_rule_linear.specs.Forms.{IsApart, IsProper, Linear, in_force, least_sum, scope_of, variables};
+ghost use Rattle.dp_domain.specs.Conditions.{IsApart, in_force};
+ghost use Rattle.dp_rule_linear.specs.Forms.{IsProper, Linear, least_sum, scope_of, variables};
 ghost use Rattle.dp_rule_linear.specs.Differs.{are_single};
 ghost use Rattle.dp_rule_linear.specs.Refusals.{IsRefused};
 

@@ -4,9 +4,10 @@ ghost use Rattle.std.specs.Prelude.{◌≡◌, ℕ, ◌^◌, ◌<◌, ◌≤◌,
 ghost use Rattle.dp_base.specs.Lists.{Among, Climbs, Each};
 ghost use Rattle.dp_domain.specs.Sets.{IsSmall};
 ghost use Rattle.dp_domain.specs.States.{values};
-ghost use Rattle.dp_rule_linear.specs.Forms.{IsApart, IsBounded, IsGoodAt, least_product, least_sum, variables};
+ghost use Rattle.dp_domain.specs.Conditions.{IsApart};
+ghost use Rattle.dp_rule_linear.specs.Forms.{IsBounded, IsGoodAt, least_product, least_sum, variables};
 ghost use Rattle.dp_rule_linear.specs.Refusals.{IsFirstBad};
-ghost use Rattle.dp_rule_linear.specs.Scopes.{with_variable};
+ghost use Rattle.dp_base.specs.Scopes.{with_variable};
 ghost use Rattle.dp_rule_linear.specs.Differs.{are_single, is_single};
 
 use crate::{Atom, State, VarId};

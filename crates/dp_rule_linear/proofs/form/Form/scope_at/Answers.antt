@@ -3,7 +3,7 @@ use Rattle.std.proofs.Common.{◌≡◌, ◌<◌, ◌≤◌, Some, length, ap, a
 use Rattle.std.specs.List.{slice_get}
 use Rattle.dp_base.specs.Lists.{Among, Climbs}
 use Rattle.dp_rule_linear.specs.Forms.{Linear, scope_of, variables}
-use Rattle.dp_rule_linear.specs.Scopes.{with_variable}
+use Rattle.dp_base.specs.Scopes.{with_variable}
 use Rattle.dp_rule_linear.proofs.Places.{apart_some, climbs_good, length-scope_none, length-scope_some, read_at, scope_none, scope_some}
 use Rattle.dp_rule_linear.proofs.form.Form.scope_at.Goals as goal
 

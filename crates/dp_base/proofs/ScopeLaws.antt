@@ -4,7 +4,7 @@ use Rattle.std.proofs.Common.{refl, sym, ◌∙◌, ap, subst, inl, inr, arith}
 use Rattle.std.proofs.lemmas.Bool.Decides.{nat_tests}
 use Rattle.dp_base.specs.Lists.{Among, Each, Climbs}
 use Rattle.dp_base.proofs.Lists.{Each-among, Each-from_among}
-use Rattle.dp_rule_linear.specs.Scopes.{with_variable, in_order}
+use Rattle.dp_base.specs.Scopes.{with_variable, in_order}
 
 -- x before y, and the tests that say so
 pub record IsBefore (x y : ℕ) : Type 0 where
