@@ -4,3 +4,5 @@ pub mod ScopeLaws
 pub mod SetLaws
 pub mod SetSteps
 pub mod StateLaws
+pub mod TurnLaws
+pub mod TurnSteps

@@ -2,7 +2,7 @@
 use Rattle.std.specs.Prelude.{◌≡◌, ℕ, ◌<◌, Bool, true, false, List, [], ◌∷◌, length, get_or, slice_set, ℤ}
 use Rattle.std.specs.Prelude.{filter}
 use Rattle.std.specs.List.{list_any, list_all}
-use Rattle.dp_base.specs.Lists.{Among}
+use Rattle.dp_base.specs.Lists.{Among, Each}
 use Rattle.dp_domain.specs.Atoms.{Atomic, meets}
 
 -- for each variable, in order of declaration, the values that it may take, in ascending order
@@ -38,6 +38,10 @@ cut d a = slice_set d a.var (filter (meets a) (values d a.var))
 abbrev pub cut_all : Domains → List Atomic → Domains
 cut_all d [] = d
 cut_all d (a ∷ atoms) = cut_all (cut d a) atoms
+
+-- each atom is on a variable of the state
+abbrev pub AreOf : Domains → List Atomic → Type 0
+AreOf d atoms = Each (λ a. a.var < length d) atoms
 
 -- the assignment gives each variable one of its values
 abbrev pub LiesIn : (ℕ → ℤ) → Domains → Type 0

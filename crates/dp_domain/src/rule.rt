@@ -1,10 +1,13 @@
 // The trait of the rules that constraints are checked by.
 
-ghost use Rattle.std.specs.Prelude.{◌≡◌, ℕ, ◌<◌, ◌↔◌, Bool, true, false, Some, List, length, slice_get, ℤ, IfOk};
+ghost use Rattle.std.specs.Prelude.{◌≡◌, ℕ, ◌+◌, ◌<◌, ◌↔◌, Bool, true, false, Some, [], List, length, slice_get, ℤ, IfOk};
+ghost use Rattle.dp_domain.specs.Explanations.{IsOpen, explanation, suffices};
 ghost use Rattle.dp_domain.specs.Faces.{Covers, Face, Fixes, IsLawful};
-ghost use Rattle.dp_domain.specs.States.{Domains, LiesIn, is_dead};
+ghost use Rattle.dp_domain.specs.States.{Domains, IsWithin, LiesIn, is_dead};
+ghost use Rattle.dp_domain.specs.Turns.{turn_of};
 
-use crate::{Memory, State, VarId};
+use crate::{Atom, Found, Memory, State, Steps, VarId};
+use std::sync::ledger::Ledger;
 
 /// A part of a constraint: which assignments meet it, and a test that says where no assignment can.
 pub trait Rule {
@@ -26,10 +29,33 @@ pub trait Rule {
         requires { place < length (face self.now).scope }
         ensures { slice_get (face self.now).scope place ≡ Some result };
 
+    /// Whether it may take the value out of the variable singly, where both bounds stay.
+    fn is_point(&self, var: VarId, value: i64) -> bool
+        ensures { result ≡ (face self.now).point var value };
+
     /// Whether it clashes at the state.
     fn clash(&self, state: &State) -> Result<bool, Memory>
         requires { Covers (face self.now).scope state.now }
         ensures { IfOk result (λ answer. answer ≡ (face self.now).test state.now) };
+
+    /// Its turn at a nonempty state: Clash where it clashes; else, on its first variable with an atom that
+    /// is new and follows, the greatest `>=`, else the least `<=`, else the least `!=` at a point. None
+    /// exactly where there is no such atom. It ticks once, also where it answers `Memory`.
+    fn next<L: Ledger>(&self, state: &State, steps: &mut Steps<L>) -> Result<Option<Found>, Memory>
+        requires covers { Covers (face self.now).scope state.now }
+        requires alive { is_dead state.now ≡ false }
+        ensures turn { IfOk result (λ turn. turn ≡ turn_of (face self.now) state.now) }
+        ensures ticked { steps.new ≡ steps.old + 1 };
+
+    /// Why it clashes at the state `now` where the target fails, or at `now` itself where there is no
+    /// target: atoms that hold at `now` and suffice at the initial state, of which none can be left out.
+    fn explain(&self, initial: &State, now: &State, target: Option<Atom>) -> Result<Vec<Atom>, Memory>
+        requires covers { Covers (face self.now).scope now.now }
+        requires alive { is_dead now.now ≡ false }
+        requires within { IsWithin now.now initial.now }
+        requires open { IsOpen now.now target }
+        requires clash { suffices (face self.now) now.now target [] ≡ true }
+        ensures explanation { IfOk result (λ atoms. atoms.items ≡ explanation (face self.now) initial.now now.now target) };
 
     /// The test is true exactly where it clashes.
     ghost exact: { (q : Self) (d : Domains) → (face q).test d ≡ true ↔ clashes q d };
