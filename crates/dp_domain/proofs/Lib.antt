@@ -1,5 +1,7 @@
 pub mod AtomLaws
 pub mod BoundLaws
+pub mod ExplanationLaws
+pub mod ExplanationSteps
 pub mod ScopeLaws
 pub mod SetLaws
 pub mod SetSteps

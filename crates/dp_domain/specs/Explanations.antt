@@ -22,7 +22,7 @@ bound_atom atom false bound = []
 
 -- whether the number is one of these
 abbrev pub has : List ℤ → ℤ → Bool
-has xs v = list_any (λ w. int_le v w && int_le w v) xs
+has xs v = list_any (λ w. int_le w v && int_le v w) xs
 
 -- whether the number lies strictly between the bounds, and is not one of the values
 abbrev pub is_hole : List ℤ → ℤ → Bool

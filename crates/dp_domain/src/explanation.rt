@@ -5,13 +5,13 @@ ghost use Rattle.dp_domain.specs.Explanations.{Explains, IsOpen, explanation, fa
 ghost use Rattle.dp_domain.specs.Faces.{Covers};
 ghost use Rattle.dp_domain.specs.States.{AreOf, IsWithin, cut_all, is_dead};
 
-use crate::{Atom, Memory, Rule, State, VarId};
+use crate::{Atom, Memory, State, Test, VarId};
 use std::alloc::Global;
 
 /// The explanation of any part, found by its test: the description of the state `now` beyond the
 /// initial one, with each atom dropped in turn where those kept and those to come suffice without it.
 /// Each test copies the initial state.
-pub fn search_explanation<R: Rule>(rule: &R, initial: &State, now: &State, target: Option<Atom>) -> Result<Vec<Atom>, Memory>
+pub fn search_explanation<R: Test>(rule: &R, initial: &State, now: &State, target: Option<Atom>) -> Result<Vec<Atom>, Memory>
     requires covers { Covers (R.face rule.now).scope now.now }
     requires alive { is_dead now.now ≡ false }
     requires within { IsWithin now.now initial.now }
@@ -26,7 +26,7 @@ pub fn search_explanation<R: Rule>(rule: &R, initial: &State, now: &State, targe
 }
 
 /// The part's variables.
-fn scope_of<R: Rule>(rule: &R, alloc: Global) -> Result<Vec<VarId>, Memory>
+fn scope_of<R: Test>(rule: &R, alloc: Global) -> Result<Vec<VarId>, Memory>
     ensures { IfOk result (λ scope. scope.items ≡ (R.face rule.now).scope) }
 {
     let mut scope = Vec::new(alloc);
@@ -37,7 +37,7 @@ fn scope_of<R: Rule>(rule: &R, alloc: Global) -> Result<Vec<VarId>, Memory>
 }
 
 /// The atoms without which the others do not suffice, from the first on.
-fn needed<R: Rule>(rule: &R, initial: &State, target: &Option<Atom>, atoms: &[Atom]) -> Result<Vec<Atom>, Memory>
+fn needed<R: Test>(rule: &R, initial: &State, target: &Option<Atom>, atoms: &[Atom]) -> Result<Vec<Atom>, Memory>
     requires covers { Covers (R.face rule.now).scope initial.now }
     requires atoms { AreOf initial.now atoms.now }
     requires target { AreOf initial.now (failing target.now) }
@@ -52,7 +52,7 @@ fn needed<R: Rule>(rule: &R, initial: &State, target: &Option<Atom>, atoms: &[At
 }
 
 /// Keeps the atom where those kept and those to come do not suffice without it.
-fn keep_needed<R: Rule>(rule: &R, initial: &State, target: &Option<Atom>, kept: &mut Vec<Atom>, atom: Atom, rest: &[Atom]) -> Result<(), Memory>
+fn keep_needed<R: Test>(rule: &R, initial: &State, target: &Option<Atom>, kept: &mut Vec<Atom>, atom: Atom, rest: &[Atom]) -> Result<(), Memory>
     requires covers { Covers (R.face rule.now).scope initial.now }
     requires kept { AreOf initial.now kept.old.items }
     requires rest { AreOf initial.now rest.now }
@@ -67,7 +67,7 @@ fn keep_needed<R: Rule>(rule: &R, initial: &State, target: &Option<Atom>, kept: 
 }
 
 /// Whether the part clashes at the state with these atoms where the target fails.
-fn suffices<R: Rule>(rule: &R, initial: &State, target: &Option<Atom>, kept: &[Atom], rest: &[Atom]) -> Result<bool, Memory>
+fn suffices<R: Test>(rule: &R, initial: &State, target: &Option<Atom>, kept: &[Atom], rest: &[Atom]) -> Result<bool, Memory>
     requires covers { Covers (R.face rule.now).scope initial.now }
     requires kept { AreOf initial.now kept.now }
     requires rest { AreOf initial.now rest.now }
@@ -77,10 +77,22 @@ fn suffices<R: Rule>(rule: &R, initial: &State, target: &Option<Atom>, kept: &[A
     let mut state = initial.copy()?;
     cut_by(&mut state, kept)?;
     cut_by(&mut state, rest)?;
-    if let Some(atom) = target {
-        state.exclude(atom.negated())?;
-    }
+    cut_target(&mut state, target)?;
     rule.clash(&state)
+}
+
+/// Cuts the state by the negation of the target, where there is one.
+fn cut_target(state: &mut State, target: &Option<Atom>) -> Result<(), Memory>
+    requires { AreOf state.old (failing target.now) }
+    ensures { OnOk result (state.new ≡ cut_all state.old (failing target.now)) }
+{
+    match target {
+        Some(atom) => {
+            state.exclude(atom.negated())?;
+            Ok(())
+        }
+        None => Ok(()),
+    }
 }
 
 /// Cuts the state by each of the atoms.

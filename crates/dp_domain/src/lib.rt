@@ -17,7 +17,7 @@ pub use dom::Dom;
 pub use dp_base::{Assignment, Memory, Name, Text};
 pub use explanation::search_explanation;
 pub use found::Found;
-pub use rule::Rule;
+pub use rule::{Rule, Test};
 pub use state::State;
 pub use steps::Steps;
 pub use turn::search_turn;

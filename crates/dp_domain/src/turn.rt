@@ -6,12 +6,12 @@ ghost use Rattle.dp_domain.specs.Sets.{IsSmall};
 ghost use Rattle.dp_domain.specs.States.{is_dead};
 ghost use Rattle.dp_domain.specs.Turns.{IsTurn, given, given_on, gives, new_hole, new_lower, new_upper, other_than, turn_of};
 
-use crate::{Atom, Found, Memory, Op, Rule, State, Steps, VarId};
+use crate::{Atom, Found, Memory, Op, State, Steps, Test, VarId};
 use std::sync::ledger::Ledger;
 
 /// The turn of any part at a nonempty state, found by its test. It ticks once, also where it answers
 /// `Memory`. It tries each value of each variable of the scope, with a copy of the state for each.
-pub fn search_turn<R: Rule, L: Ledger>(rule: &R, state: &State, steps: &mut Steps<L>) -> Result<Option<Found>, Memory>
+pub fn search_turn<R: Test, L: Ledger>(rule: &R, state: &State, steps: &mut Steps<L>) -> Result<Option<Found>, Memory>
     requires covers { Covers (R.face rule.now).scope state.now }
     requires alive { is_dead state.now ≡ false }
     ensures turn { IfOk result (λ turn. turn ≡ turn_of (R.face rule.now) state.now) }
@@ -22,7 +22,7 @@ pub fn search_turn<R: Rule, L: Ledger>(rule: &R, state: &State, steps: &mut Step
     found(rule, state)
 }
 
-fn found<R: Rule>(rule: &R, state: &State) -> Result<Option<Found>, Memory>
+fn found<R: Test>(rule: &R, state: &State) -> Result<Option<Found>, Memory>
     requires { Covers (R.face rule.now).scope state.now }
     ensures { IfOk result (λ turn. turn ≡ turn_of (R.face rule.now) state.now) }
 {
@@ -37,7 +37,7 @@ fn found<R: Rule>(rule: &R, state: &State) -> Result<Option<Found>, Memory>
 }
 
 /// What the part gives on the first variable that it gives something on.
-fn given<R: Rule>(rule: &R, state: &State) -> Result<Option<Atom>, Memory>
+fn given<R: Test>(rule: &R, state: &State) -> Result<Option<Atom>, Memory>
     requires { Covers (R.face rule.now).scope state.now }
     ensures { IfOk result (λ atom. atom ≡ given (R.face rule.now) state.now (R.face rule.now).scope) }
 {
@@ -51,7 +51,7 @@ fn given<R: Rule>(rule: &R, state: &State) -> Result<Option<Atom>, Memory>
 }
 
 /// A lower bound, else an upper bound, else a hole.
-fn given_on<R: Rule>(rule: &R, state: &State, var: VarId) -> Result<Option<Atom>, Memory>
+fn given_on<R: Test>(rule: &R, state: &State, var: VarId) -> Result<Option<Atom>, Memory>
     requires covers { Covers (R.face rule.now).scope state.now }
     requires var { var < length state.now }
     ensures { IfOk result (λ atom. atom ≡ given_on (R.face rule.now) state.now var) }
@@ -68,7 +68,7 @@ fn given_on<R: Rule>(rule: &R, state: &State, var: VarId) -> Result<Option<Atom>
 }
 
 /// The greatest new lower bound that follows: from the greatest value down.
-fn new_lower<R: Rule>(rule: &R, state: &State, var: VarId) -> Result<Option<Atom>, Memory>
+fn new_lower<R: Test>(rule: &R, state: &State, var: VarId) -> Result<Option<Atom>, Memory>
     requires covers { Covers (R.face rule.now).scope state.now }
     requires var { var < length state.now }
     ensures { IfOk result (λ atom. atom ≡ new_lower (R.face rule.now) state.now var) }
@@ -86,7 +86,7 @@ fn new_lower<R: Rule>(rule: &R, state: &State, var: VarId) -> Result<Option<Atom
 }
 
 /// The least new upper bound that follows: from the least value up.
-fn new_upper<R: Rule>(rule: &R, state: &State, var: VarId) -> Result<Option<Atom>, Memory>
+fn new_upper<R: Test>(rule: &R, state: &State, var: VarId) -> Result<Option<Atom>, Memory>
     requires covers { Covers (R.face rule.now).scope state.now }
     requires var { var < length state.now }
     ensures { IfOk result (λ atom. atom ≡ new_upper (R.face rule.now) state.now var) }
@@ -103,7 +103,7 @@ fn new_upper<R: Rule>(rule: &R, state: &State, var: VarId) -> Result<Option<Atom
 }
 
 /// The least value that is taken out, among the part's points.
-fn new_hole<R: Rule>(rule: &R, state: &State, var: VarId) -> Result<Option<Atom>, Memory>
+fn new_hole<R: Test>(rule: &R, state: &State, var: VarId) -> Result<Option<Atom>, Memory>
     requires covers { Covers (R.face rule.now).scope state.now }
     requires var { var < length state.now }
     ensures { IfOk result (λ atom. atom ≡ new_hole (R.face rule.now) state.now var) }
@@ -121,7 +121,7 @@ fn new_hole<R: Rule>(rule: &R, state: &State, var: VarId) -> Result<Option<Atom>
 }
 
 /// Whether the value is a point of the part, and that it is another follows and is new.
-fn takes_out<R: Rule>(rule: &R, state: &State, var: VarId, value: i64) -> Result<bool, Memory>
+fn takes_out<R: Test>(rule: &R, state: &State, var: VarId, value: i64) -> Result<bool, Memory>
     requires covers { Covers (R.face rule.now).scope state.now }
     requires var { var < length state.now }
     requires small { IsSmall value }
@@ -135,7 +135,7 @@ fn takes_out<R: Rule>(rule: &R, state: &State, var: VarId, value: i64) -> Result
 }
 
 /// Whether the atom is new and follows: the state does not entail it, and the part clashes where it fails.
-fn gives<R: Rule>(rule: &R, state: &State, atom: Atom) -> Result<bool, Memory>
+fn gives<R: Test>(rule: &R, state: &State, atom: Atom) -> Result<bool, Memory>
     requires covers { Covers (R.face rule.now).scope state.now }
     requires var { atom.var < length state.now }
     ensures { IfOk result (λ answer. answer ≡ gives (R.face rule.now) state.now atom) }

@@ -4,4 +4,4 @@ use Rattle.dp_domain.proofs.turn.given.Given as goal
 
 -- what the variables that are left give is what all give
 abbrev pub invariant-loop-place : goal.invariant-loop-place
-invariant-loop-place g l = given (g.R.Rule.face l.rule) l.state (drop l.place (g.R.Rule.face l.rule).scope) ≡ given (g.R.Rule.face l.rule) l.state (g.R.Rule.face l.rule).scope
+invariant-loop-place g l = given (g.R.Test.face l.rule) l.state (drop l.place (g.R.Test.face l.rule).scope) ≡ given (g.R.Test.face l.rule) l.state (g.R.Test.face l.rule).scope

@@ -4,4 +4,4 @@ use Rattle.dp_domain.proofs.turn.new_hole.Given as goal
 
 -- no value so far is taken out
 abbrev pub invariant-loop-place : goal.invariant-loop-place
-invariant-loop-place g l = (k : ℕ) → k < l.place → takes (g.R.Rule.face l.rule) l.state l.var (get_or l.values k (pos 0)) ≡ false
+invariant-loop-place g l = (k : ℕ) → k < l.place → takes (g.R.Test.face l.rule) l.state l.var (get_or l.values k (pos 0)) ≡ false

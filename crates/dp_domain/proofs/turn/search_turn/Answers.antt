@@ -6,7 +6,7 @@ use Rattle.dp_domain.proofs.turn.search_turn.Goals as goal
 
 pub returns-clause-meaning : goal.returns-clause-meaning
 returns-clause-meaning g c =
-    IfOk-weaker c.found.result (λ t. t ≡ turn_of (g.R.Rule.face c.args.rule.now) c.args.state.now) (IsTurn (g.R.Rule.face c.args.rule.now) c.args.state.now)
-    (λ t e. subst (IsTurn (g.R.Rule.face c.args.rule.now) c.args.state.now) (sym e)
-    (turn_of-is (g.R.Rule.face c.args.rule.now) c.args.state.now (g.met.R.Rule.lawful c.args.rule.now).ordered c.requires.alive))
+    IfOk-weaker c.found.result (λ t. t ≡ turn_of (g.R.Test.face c.args.rule.now) c.args.state.now) (IsTurn (g.R.Test.face c.args.rule.now) c.args.state.now)
+    (λ t e. subst (IsTurn (g.R.Test.face c.args.rule.now) c.args.state.now) (sym e)
+    (turn_of-is (g.R.Test.face c.args.rule.now) c.args.state.now (g.met.R.Test.lawful c.args.rule.now).ordered c.requires.alive))
     c.found.ensures
