@@ -42,7 +42,7 @@ pub length-with_variable : (x : ℕ) (ys : List ℕ) → ¬ (Among x ys) → len
 length-with_variable x [] apart = refl
 length-with_variable x (y ∷ ys) apart =
     elim (order_of x y) [
-        inl before ↦ ap length (with_variable-before x y ys before)
+      | inl before ↦ ap length (with_variable-before x y ys before)
       | inr (inl after) ↦ ap length (with_variable-after x y ys after) ∙ ap suc (length-with_variable x ys (λ here. apart (inr here)))
       | inr (inr one) ↦ absurd (apart (inl one.same))
     ]
@@ -74,7 +74,7 @@ place-added x [] zero climbs apart h below above = refl
 place-added x [] (suc k) climbs apart h below above = absurd (omega arith)
 place-added x (y ∷ ys) zero climbs apart h below above =
     elim (order_of x y) [
-        inl before ↦ ap (λ zs. slice_get zs 0) (with_variable-before x y ys before)
+      | inl before ↦ ap (λ zs. slice_get zs 0) (with_variable-before x y ys before)
       | inr (inl after) ↦ absurd (let less : y < x = after.less in let not : x ≤ y = above (omega arith) in omega arith)
       | inr (inr one) ↦ absurd (apart (inl one.same))
     ]
@@ -87,13 +87,13 @@ pub place-after : (x : ℕ) (ys : List ℕ) (k : ℕ) → Climbs ys → ¬ (Amon
 place-after x [] k climbs apart h above = absurd (omega arith)
 place-after x (y ∷ ys) zero climbs apart h above =
     elim (order_of x y) [
-        inl before ↦ ap (λ zs. slice_get zs 1) (with_variable-before x y ys before)
+      | inl before ↦ ap (λ zs. slice_get zs 1) (with_variable-before x y ys before)
       | inr (inl after) ↦ absurd (let less : y < x = after.less in omega arith)
       | inr (inr one) ↦ absurd (apart (inl one.same))
     ]
 place-after x (y ∷ ys) (suc k) climbs apart h above =
     elim (order_of x y) [
-        inl before ↦ ap (λ zs. slice_get zs (suc (suc k))) (with_variable-before x y ys before) ∙ slice_get-get_or ys k 0 (omega arith)
+      | inl before ↦ ap (λ zs. slice_get zs (suc (suc k))) (with_variable-before x y ys before) ∙ slice_get-get_or ys k 0 (omega arith)
       | inr (inl after) ↦ ap (λ zs. slice_get zs (suc (suc k))) (with_variable-after x y ys after) ∙ place-after x ys k climbs.1 (λ here. apart (inr here)) (omega arith) above
       | inr (inr one) ↦ absurd (apart (inl one.same))
     ]
@@ -168,3 +168,8 @@ condition_covered q a d e covers =
 -- and so are those of the terms
 pub terms_covered : (q : Linear) (d : Domains) → Covers (scope_of q) d → Each (λ x. x < length d) (variables q.terms)
 terms_covered q d covers = Each-from_among (λ x. x < length d) (variables q.terms) (λ x here. Each-among (λ y. y < length d) (scope_of q) covers x (variable_in_scope q x here))
+
+-- what holds at each place holds of each
+pub each_from_places : (P : ℕ → Type 0) (xs : List ℕ) → ((k : ℕ) → k < length xs → P (get_or xs k 0)) → Each P xs
+each_from_places P [] f = tt
+each_from_places P (x ∷ xs) f = (f 0 (omega arith), each_from_places P xs (λ k h. f (suc k) (omega arith)))

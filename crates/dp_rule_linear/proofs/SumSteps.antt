@@ -156,8 +156,8 @@ single_bits xs a b domain e f =
     let fits : FitsSigned w64 a = small_fits a (IsSmall-among xs domain a (least-among xs a (sym e))) in
     let fits' : FitsSigned w64 b = small_fits b (IsSmall-among xs domain b (greatest-among xs b (sym f))) in
     same_from_decides {P = a ≡ b} (nat_eq (of_z w64 a) (of_z w64 b)) (is_single xs)
-        (λ t. sym (to_z-of_z w64 a fits) ∙ ap (to_z w64) ((Decides-eqb (of_z w64 a) (of_z w64 b)).0 t) ∙ to_z-of_z w64 b fits', λ s. (Decides-eqb (of_z w64 a) (of_z w64 b)).1 (ap (of_z w64) s))
-        (ends_from_single xs a b e f, single_from_ends xs a b e f)
+    (λ t. sym (to_z-of_z w64 a fits) ∙ ap (to_z w64) ((Decides-eqb (of_z w64 a) (of_z w64 b)).0 t) ∙ to_z-of_z w64 b fits', λ s. (Decides-eqb (of_z w64 a) (of_z w64 b)).1 (ap (of_z w64) s))
+    (ends_from_single xs a b e f, single_from_ends xs a b e f)
   where
     small_fits : (v : ℤ) → IsSmall v → FitsSigned w64 v
     small_fits v h = omega (arith, ints)

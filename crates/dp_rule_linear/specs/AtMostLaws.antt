@@ -22,15 +22,15 @@ over_test x y h = sym (omega (arith, ints))
 
 clashes_where : (q : Linear) (d : Domains) → test_at_most q d ≡ true → ClashesAtMost q d
 clashes_where q d e = elim (test_cases (is_dead d) (in_force d q.condition) (int_lt q.rhs (least_sum d q.terms)) e) [
-    inl dead ↦ inl dead
+  | inl dead ↦ inl dead
   | inr both ↦ inr (both.0, over q.rhs (least_sum d q.terms) both.1)
-  ]
+]
 
 true_where : (q : Linear) (d : Domains) → ClashesAtMost q d → test_at_most q d ≡ true
 true_where q d clashes = elim clashes [
-    inl dead ↦ test_dead (is_dead d) (in_force d q.condition && int_lt q.rhs (least_sum d q.terms)) dead
+  | inl dead ↦ test_dead (is_dead d) (in_force d q.condition && int_lt q.rhs (least_sum d q.terms)) dead
   | inr both ↦ test_over (is_dead d) (in_force d q.condition) (int_lt q.rhs (least_sum d q.terms)) both.0 (over_test q.rhs (least_sum d q.terms) both.1)
-  ]
+]
 
 -- the test is true exactly where it clashes
 pub at_most_exact : (q : Linear) (d : Domains) → (face_at_most q).test d ≡ true ↔ ClashesAtMost q d
@@ -83,11 +83,13 @@ not_met q d s alive fixes (inr both) (inr most) =
 
 clash_where_not_met : (q : Linear) (d : Domains) (s : ℕ → ℤ) → Fixes (scope_of q) s d → (MeetsAtMost q s → ⊥) → ClashesAtMost q d
 clash_where_not_met q d s fixes fails =
-    inr (in_force-from_fixed q.condition (variables q.terms) d s fixes (λ f. fails (inl f)),
+    inr (
+      in_force-from_fixed q.condition (variables q.terms) d s fixes (λ f. fails (inl f)),
       elim (order_of (sum_at s q.terms) q.rhs) [
-        inl most ↦ absurd (fails (inr most))
-      | inr more ↦ subst (λ z. q.rhs <ℤ z) (sym (least_sum-fixed q.terms d s (λ x here. fixes x (variable_in_scope q x here)))) more
-      ])
+        | inl most ↦ absurd (fails (inr most))
+        | inr more ↦ subst (λ z. q.rhs <ℤ z) (sym (least_sum-fixed q.terms d s (λ x here. fixes x (variable_in_scope q x here)))) more
+      ],
+    )
 
 pub at_most_deciding : (q : Linear) (d : Domains) (s : ℕ → ℤ) → is_dead d ≡ false → Fixes (face_at_most q).scope s d → ((face_at_most q).test d ≡ true) ↔ (MeetsAtMost q s → ⊥)
 at_most_deciding q d s alive fixes =

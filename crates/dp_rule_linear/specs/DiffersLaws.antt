@@ -1,11 +1,12 @@
 -- The laws of a sum other than a number.
-use Rattle.std.specs.Prelude.{◌≡◌, ℕ, ◌<◌, Bool, true, false, ◌&&◌, ◌||◌, ◌⊎◌, ◌↔◌, List, [], ◌∷◌, length, unwrap_or, map, ℤ, pos, ◌*ℤ◌, ◌≤ℤ◌, ◌<ℤ◌, int_le}
+use Rattle.std.specs.Prelude.{◌≡◌, ℕ, ◌<◌, Bool, true, false, ◌&&◌, ◌||◌, ◌⊎◌, ◌↔◌, ◌==◌, List, [], ◌∷◌, length, unwrap_or, map, ℤ, pos, ◌*ℤ◌, ◌≤ℤ◌, ◌<ℤ◌, int_le}
 use Rattle.std.specs.List.{list_all}
 use Rattle.std.proofs.Common.{refl, sym, ◌∙◌, ap, subst, inl, inr, arith}
 use Rattle.std.proofs.lemmas.Int.{ints}
+use Rattle.std.proofs.lemmas.Bool.Decides.{Decides-eqb}
 use Rattle.std.proofs.lemmas.Bool.{false≢true, both_ways, false_from_ne_true}
 use Rattle.dp_base.specs.Lists.{Among, Each}
-use Rattle.dp_base.proofs.Lists.{Each-among, Each-from_among, list_all-at, list_all-from}
+use Rattle.dp_base.proofs.Lists.{Each-among, Each-from_among, list_all-at, list_all-from, list_any-at, list_any-some}
 use Rattle.dp_domain.specs.Faces.{AgreesOn, Covers, Fixes, IsLawful}
 use Rattle.dp_domain.specs.Sets.{least}
 use Rattle.dp_domain.specs.States.{Domains, LiesIn, IsWithin, is_dead, values}
@@ -83,23 +84,23 @@ are_single-local ts d e agrees =
 
 clashes_where : (q : Linear) (d : Domains) → test_differs q d ≡ true → ClashesDiffers q d
 clashes_where q d e = elim (test_cases (is_dead d) (in_force d q.condition) (are_single d q.terms && is_same (least_sum d q.terms) q.rhs) e) [
-    inl dead ↦ inl dead
+  | inl dead ↦ inl dead
   | inr both ↦
-        let parts = both_true (are_single d q.terms) (is_same (least_sum d q.terms) q.rhs) both.1 in
-        let only = only_where q.terms d parts.0 in
-        inr (both.0, (λ x. first (values d x), record { only = only; sum = sym (least_sum-only q.terms d (λ x. first (values d x)) only) ∙ same_where (least_sum d q.terms) q.rhs parts.1 }))
-  ]
+      let parts = both_true (are_single d q.terms) (is_same (least_sum d q.terms) q.rhs) both.1 in
+      let only = only_where q.terms d parts.0 in
+      inr (both.0, (λ x. first (values d x), record { only = only; sum = sym (least_sum-only q.terms d (λ x. first (values d x)) only) ∙ same_where (least_sum d q.terms) q.rhs parts.1 }))
+]
 
 true_where : (q : Linear) (d : Domains) → ClashesDiffers q d → test_differs q d ≡ true
 true_where q d clashes = elim clashes [
-    inl dead ↦ test_dead (is_dead d) (in_force d q.condition && (are_single d q.terms && is_same (least_sum d q.terms) q.rhs)) dead
+  | inl dead ↦ test_dead (is_dead d) (in_force d q.condition && (are_single d q.terms && is_same (least_sum d q.terms) q.rhs)) dead
   | inr both ↦
-        let s = both.1.0 in
-        let fixed = both.1.1 in
-        test_over (is_dead d) (in_force d q.condition) (are_single d q.terms && is_same (least_sum d q.terms) q.rhs) both.0
-            (true_both (are_single d q.terms) (is_same (least_sum d q.terms) q.rhs) (are_single_where q.terms d s fixed.only)
-              (is_same_where (least_sum d q.terms) q.rhs (least_sum-only q.terms d s fixed.only ∙ fixed.sum)))
-  ]
+      let s = both.1.0 in
+      let fixed = both.1.1 in
+      test_over (is_dead d) (in_force d q.condition) (are_single d q.terms && is_same (least_sum d q.terms) q.rhs) both.0
+      (true_both (are_single d q.terms) (is_same (least_sum d q.terms) q.rhs) (are_single_where q.terms d s fixed.only)
+      (is_same_where (least_sum d q.terms) q.rhs (least_sum-only q.terms d s fixed.only ∙ fixed.sum)))
+]
 
 -- the test is true exactly where it clashes
 pub differs_exact : (q : Linear) (d : Domains) → (face_differs q).test d ≡ true ↔ ClashesDiffers q d
@@ -115,8 +116,8 @@ only-within v xs ys only within w here =
 fixed-within : (q : Linear) (d e : Domains) (s : ℕ → ℤ) → Covers (scope_of q) d → IsWithin e d → is_dead e ≡ false → IsFixedAt q d s → IsFixedAt q e s
 fixed-within q d e s covers within alive fixed = record {
   only = λ x here.
-    let m = alive-value e x alive (subst (λ n. x < n) (sym within.count) (covered q d covers x here)) in
-    only-within (s x) (values d x) (values e x) (fixed.only x here) (λ w there. within.each x w there) m.0 m.1;
+      let m = alive-value e x alive (subst (λ n. x < n) (sym within.count) (covered q d covers x here)) in
+      only-within (s x) (values d x) (values e x) (fixed.only x here) (λ w there. within.each x w there) m.0 m.1;
   sum = fixed.sum;
 }
 
@@ -135,9 +136,9 @@ differs_lawful q = record {
   dead = λ d gone. true_where q d (inl gone);
   monotone = λ d e covers within h. true_where q e (monotone q d e covers within (clashes_where q d h) (is_dead e) refl);
   local = λ d e p r agrees.
-    let near : AgreesOn (variables q.terms) d e = λ x here. agrees x (variable_in_scope q x here) in
-    same_test (is_dead d) (is_dead e) (in_force d q.condition) (in_force e q.condition) (are_single d q.terms) (are_single e q.terms) q.rhs (least_sum d q.terms) (least_sum e q.terms)
-        (p ∙ sym r) (in_force-local q.condition (variables q.terms) d e agrees) (are_single-local q.terms d e near) (least_sum-local q.terms d e near);
+      let near : AgreesOn (variables q.terms) d e = λ x here. agrees x (variable_in_scope q x here) in
+      same_test (is_dead d) (is_dead e) (in_force d q.condition) (in_force e q.condition) (are_single d q.terms) (are_single e q.terms) q.rhs (least_sum d q.terms) (least_sum e q.terms)
+      (p ∙ sym r) (in_force-local q.condition (variables q.terms) d e agrees) (are_single-local q.terms d e near) (least_sum-local q.terms d e near);
 }
 
 -- assignments that give each variable of the terms the same value have the same sum
@@ -173,11 +174,23 @@ same_or_not x y false e h = absurd (h (λ k. both_ways (is_same x y) e (is_same_
 
 clash_where_not_met : (q : Linear) (d : Domains) (s : ℕ → ℤ) → Fixes (scope_of q) s d → (MeetsDiffers q s → ⊥) → ClashesDiffers q d
 clash_where_not_met q d s fixes fails =
-    inr (in_force-from_fixed q.condition (variables q.terms) d s fixes (λ f. fails (inl f)), (s, record {
-      only = λ x here. fixed_among s d x (fixes x (variable_in_scope q x here));
-      sum = same_or_not (sum_at s q.terms) q.rhs (is_same (sum_at s q.terms) q.rhs) refl (λ other. fails (inr other));
-    }))
+    inr (
+      in_force-from_fixed q.condition (variables q.terms) d s fixes (λ f. fails (inl f)),
+      (
+        s,
+        record {
+          only = λ x here. fixed_among s d x (fixes x (variable_in_scope q x here));
+          sum = same_or_not (sum_at s q.terms) q.rhs (is_same (sum_at s q.terms) q.rhs) refl (λ other. fails (inr other));
+        },
+      ),
+    )
 
 pub differs_deciding : (q : Linear) (d : Domains) (s : ℕ → ℤ) → is_dead d ≡ false → Fixes (face_differs q).scope s d → ((face_differs q).test d ≡ true) ↔ (MeetsDiffers q s → ⊥)
 differs_deciding q d s alive fixes =
     (λ e. not_met q d s alive fixes (clashes_where q d e), λ fails. true_where q d (clash_where_not_met q d s fixes fails))
+
+-- the values that it may take out are those of the variables of its scope
+pub differs_points : (q : Linear) (x : ℕ) (v : ℤ) → (face_differs q).point x v ≡ true ↔ Among x (scope_of q)
+differs_points q x v =
+    (λ e. let r = list_any-some (λ y. x == y) (scope_of q) e in subst (λ y. Among y (scope_of q)) (sym ((Decides-eqb x r.0).0 r.2)) r.1,
+      λ here. list_any-at (λ y. x == y) (scope_of q) x here ((Decides-eqb x x).1 refl))

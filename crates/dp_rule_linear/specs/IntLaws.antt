@@ -63,8 +63,8 @@ least_image_is : (f : ℤ → ℤ) (xs : List ℤ) (v : ℤ) → Among v xs → 
 least_image_is f [] v here bound = absurd here
 least_image_is f (x ∷ xs) v here bound =
     ap Some (least_from-is (f x) (map f xs) (f v) (Among-map f (x ∷ xs) v here) (λ z there.
-        let r = Among-map_only f (x ∷ xs) z there in
-        subst (λ y. f v ≤ℤ y) (sym r.2) (bound r.0 r.1)))
+    let r = Among-map_only f (x ∷ xs) z there in
+    subst (λ y. f v ≤ℤ y) (sym r.2) (bound r.0 r.1)))
 
 -- a factor that is not negative has its least product at the least value
 pub least-times : (a : ℤ) (xs : List ℤ) (v : ℤ) → pos 0 ≤ℤ a → least xs ≡ Some v → least (map (λ w. a *ℤ w) xs) ≡ Some (a *ℤ v)

@@ -43,12 +43,12 @@ pub among_with : (z x : ℕ) (ys : List ℕ) → Among z (x ∷ ys) → Among z 
 among_with z x [] here = here
 among_with z x (y ∷ ys) here =
     elim (order_of x y) [
-        inl before ↦ rw (with_variable-before x y ys before) here
+      | inl before ↦ rw (with_variable-before x y ys before) here
       | inr (inl after) ↦ rw (with_variable-after x y ys after) (elim here [
-            inl e ↦ inr (among_with z x ys (inl e))
-          | inr (inl e) ↦ inl e
-          | inr (inr h) ↦ inr (among_with z x ys (inr h))
-        ])
+        | inl e ↦ inr (among_with z x ys (inl e))
+        | inr (inl e) ↦ inl e
+        | inr (inr h) ↦ inr (among_with z x ys (inr h))
+      ])
       | inr (inr one) ↦ rw (with_variable-same x y ys one) (elim here [ inl e ↦ inl (e ∙ one.same) | inr h ↦ h ])
     ]
 
@@ -57,11 +57,11 @@ pub among_with_out : (z x : ℕ) (ys : List ℕ) → Among z (with_variable x ys
 among_with_out z x [] here = here
 among_with_out z x (y ∷ ys) here =
     elim (order_of x y) [
-        inl before ↦ rw (with_variable-before x y ys before) at here
+      | inl before ↦ rw (with_variable-before x y ys before) at here
       | inr (inl after) ↦ elim (rw (with_variable-after x y ys after) at here) [
-            inl e ↦ inr (inl e)
-          | inr h ↦ elim (among_with_out z x ys h) [ inl e ↦ inl e | inr k ↦ inr (inr k) ]
-        ]
+        | inl e ↦ inr (inl e)
+        | inr h ↦ elim (among_with_out z x ys h) [ inl e ↦ inl e | inr k ↦ inr (inr k) ]
+      ]
       | inr (inr one) ↦ inr (rw (with_variable-same x y ys one) at here)
     ]
 
@@ -81,7 +81,7 @@ pub climbs_with : (x : ℕ) (ys : List ℕ) → Climbs ys → Climbs (with_varia
 climbs_with x [] climbs = (tt, tt)
 climbs_with x (y ∷ ys) climbs =
     elim (order_of x y) [
-        inl before ↦ rw (with_variable-before x y ys before) ((before.less, Each-from_among (λ z. x < z) ys (λ z here. let later : y < z = Each-among (λ w. y < w) ys climbs.0 z here in let first : x < y = before.less in omega arith)), climbs)
+      | inl before ↦ rw (with_variable-before x y ys before) ((before.less, Each-from_among (λ z. x < z) ys (λ z here. let later : y < z = Each-among (λ w. y < w) ys climbs.0 z here in let first : x < y = before.less in omega arith)), climbs)
       | inr (inl after) ↦ rw (with_variable-after x y ys after) (Each-from_among (λ z. y < z) (with_variable x ys) (λ z here. elim (among_with_out z x ys here) [ inl e ↦ subst (λ w. y < w) (sym e) after.less | inr h ↦ Each-among (λ w. y < w) ys climbs.0 z h ]), climbs_with x ys climbs.1)
       | inr (inr one) ↦ rw (with_variable-same x y ys one) climbs
     ]
@@ -99,7 +99,7 @@ with_first : (x : ℕ) (ys : List ℕ) → Each (λ y. x < y) ys → with_variab
 with_first x [] first = refl
 with_first x (y ∷ ys) first =
     elim (order_of x y) [
-        inl before ↦ with_variable-before x y ys before
+      | inl before ↦ with_variable-before x y ys before
       | inr (inl after) ↦ absurd (let less : y < x = after.less in let more : x < y = first.0 in omega arith)
       | inr (inr one) ↦ absurd (let e : x ≡ y = one.same in let more : x < y = first.0 in omega arith)
     ]

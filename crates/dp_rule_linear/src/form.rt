@@ -7,8 +7,7 @@ ghost use Rattle.dp_rule_linear.specs.Forms.{IsApart, IsProper, Linear, in_force
 ghost use Rattle.dp_rule_linear.specs.Differs.{are_single};
 ghost use Rattle.dp_rule_linear.specs.Refusals.{IsRefused};
 
-use crate::sums;
-use crate::{Atom, LinRefusal, State, VarId};
+use crate::{Atom, LinRefusal, State, VarId, sums};
 use std::marker::Model;
 
 const MOST_TERMS: usize = 2_000_000;
@@ -35,7 +34,11 @@ impl Model for Form {
 
 impl Form {
     /// The form, or the first refusal that applies.
-    pub fn new(condition: Option<Atom>, terms: Vec<(i64, VarId)>, rhs: i128) -> Result<Form, LinRefusal>
+    pub fn new(
+        condition: Option<Atom>,
+        terms: Vec<(i64, VarId)>,
+        rhs: i128,
+    ) -> Result<Form, LinRefusal>
         ensures form { IfOk result (λ q. q ≡ record { condition = condition; terms = terms.items; rhs = rhs }) }
         ensures proper { IfOk result IsProper }
         ensures refused { IfErr result (λ refusal. IsRefused refusal (record { condition = condition; terms = terms.items; rhs = rhs })) }
@@ -52,7 +55,11 @@ impl Form {
         if !sums::is_apart(&condition, &terms) {
             return Err(LinRefusal::BadCondition);
         }
-        Ok(Form { condition, terms, rhs })
+        Ok(Form {
+            condition,
+            terms,
+            rhs,
+        })
     }
 
     /// Its condition.

@@ -84,6 +84,9 @@ impl Rule for LinLe {
     }
 
     fn clash(&self, state: &State) -> Result<bool, Memory> {
-        Ok(state.dead() || self.form.in_force(state) && self.form.least_sum(state) > self.form.rhs())
+        Ok(
+            state.dead()
+                || self.form.in_force(state) && self.form.least_sum(state) > self.form.rhs(),
+        )
     }
 }

@@ -84,9 +84,11 @@ impl Rule for LinNe {
     }
 
     fn clash(&self, state: &State) -> Result<bool, Memory> {
-        Ok(state.dead()
-            || self.form.in_force(state)
-                && self.form.are_single(state)
-                && self.form.least_sum(state) == self.form.rhs())
+        Ok(
+            state.dead()
+                || self.form.in_force(state)
+                    && self.form.are_single(state)
+                    && self.form.least_sum(state) == self.form.rhs(),
+        )
     }
 }

@@ -12,11 +12,11 @@ returns-then-lt c = at_before _ c.args.terms.now c.args.place c.index-terms-plac
 pub returns-then-lt-2 : goal.returns-then-lt-2
 returns-then-lt-2 c =
     let above : c.args.place < length c.args.terms.now → c.args.added ≤ get_or (variables c.args.terms.now) c.args.place 0 =
-        elim c.if-place-terms.branch [
-            then-place-terms+else-lt w ↦ λ h. above_at _ c.args.terms.now c.args.place w.index-terms-place.result h (grind (arith, nat_tests, w.lt.ensures, w.if-lt.false))
-          | else-place-terms w ↦ λ h. absurd (omega arith)
-        ]
-      in
+    elim c.if-place-terms.branch [
+      | then-place-terms+else-lt w ↦ λ h. above_at _ c.args.terms.now c.args.place w.index-terms-place.result h (grind (arith, nat_tests, w.lt.ensures, w.if-lt.false))
+      | else-place-terms w ↦ λ h. absurd (omega arith)
+    ]
+    in
     at_added _ c.args.terms.now c.args.place c.index-terms-place-2.result c.requires.climbs c.requires.apart c.if-place-eq0.false c.requires.place (grind (arith, nat_tests, c.lt-2.ensures, c.if-lt-2.true)) above
 
 pub returns-else-lt-2 : goal.returns-else-lt-2

@@ -27,10 +27,10 @@ loop-coefficient-preserved c =
     let p = c.least_product-sum.result in
     let fits : FitsSigned w64 c.loop-coefficient-item.result.0 = search rules in
     subst (IsSumSoFar c.args.state.now c.args.terms.now (c.loop-coefficient.coefficient-index + 1))
-        (sym (sum_read i _ p (omega arith) c.loop-coefficient.invariant.bounded c.least_product-sum.ensures.bounded))
-        (sum_more c.args.state.now c.args.terms.now i t _ p c.loop-coefficient-test.true c.loop-coefficient-item.is
-          (c.least_product-sum.ensures.least ∙ ap (λ a. least_product c.args.state.now (a, c.loop-coefficient-item.result.1)) (to_z-of_z w64 c.loop-coefficient-item.result.0 fits))
-          c.least_product-sum.ensures.bounded c.loop-coefficient.invariant)
+    (sym (sum_read i _ p (omega arith) c.loop-coefficient.invariant.bounded c.least_product-sum.ensures.bounded))
+    (sum_more c.args.state.now c.args.terms.now i t _ p c.loop-coefficient-test.true c.loop-coefficient-item.is
+    (c.least_product-sum.ensures.least ∙ ap (λ a. least_product c.args.state.now (a, c.loop-coefficient-item.result.1)) (to_z-of_z w64 c.loop-coefficient-item.result.0 fits))
+    c.least_product-sum.ensures.bounded c.loop-coefficient.invariant)
 
 pub returns : goal.returns
 returns c = sum_all c.args.state.now c.args.terms.now c.loop-coefficient.coefficient-index _ c.loop-coefficient-test.false c.loop-coefficient.invariant

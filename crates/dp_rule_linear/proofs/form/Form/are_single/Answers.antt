@@ -10,4 +10,4 @@ pub are_single-requires : goal.are_single-requires
 are_single-requires c =
     let q : Linear = record { condition = c.self.inside.condition; terms = c.self.inside.terms.items; rhs = c.self.inside.rhs } in
     subst (λ ts. Each (λ x. x < length c.args.state.now) (variables ts)) (sym c.deref.ensures.value)
-        (terms_covered q c.args.state.now (subst (λ (q : Linear). Covers (scope_of q) c.args.state.now) (sym c.self.view_is) c.requires))
+    (terms_covered q c.args.state.now (subst (λ (q : Linear). Covers (scope_of q) c.args.state.now) (sym c.self.view_is) c.requires))

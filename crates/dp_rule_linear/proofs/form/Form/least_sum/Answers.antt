@@ -10,4 +10,4 @@ pub least_sum-requires-clause-covered : goal.least_sum-requires-clause-covered
 least_sum-requires-clause-covered c =
     let q : Linear = record { condition = c.self.inside.condition; terms = c.self.inside.terms.items; rhs = c.self.inside.rhs } in
     subst (λ ts. Each (λ x. x < length c.args.state.now) (variables ts)) (sym c.deref.ensures.value)
-        (terms_covered q c.args.state.now (subst (λ (q : Linear). Covers (scope_of q) c.args.state.now) (sym c.self.view_is) c.requires))
+    (terms_covered q c.args.state.now (subst (λ (q : Linear). Covers (scope_of q) c.args.state.now) (sym c.self.view_is) c.requires))

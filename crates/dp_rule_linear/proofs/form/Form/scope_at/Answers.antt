@@ -28,8 +28,8 @@ pub returns-in-Some : goal.returns-in-Some
 returns-in-Some c =
     let q : Linear = record { condition = c.self.inside.condition; terms = c.self.inside.terms.items; rhs = c.self.inside.rhs } in
     subst (λ (q : Linear). slice_get (scope_of q) c.args.place ≡ Some c.at_with.result) c.self.view_is
-        (ap (λ xs. slice_get xs c.args.place) (scope_some q c.in-Some.condition c.self.invariant c.in-Some.is) ∙ ap (λ ts. slice_get (with_variable c.in-Some.condition.var (variables ts)) c.args.place) (sym c.deref.ensures.value)
-            ∙ ap (λ x. slice_get (with_variable x (variables c.deref.result.now)) c.args.place) (sym c.var.ensures) ∙ c.at_with.ensures)
+    (ap (λ xs. slice_get xs c.args.place) (scope_some q c.in-Some.condition c.self.invariant c.in-Some.is) ∙ ap (λ ts. slice_get (with_variable c.in-Some.condition.var (variables ts)) c.args.place) (sym c.deref.ensures.value)
+    ∙ ap (λ x. slice_get (with_variable x (variables c.deref.result.now)) c.args.place) (sym c.var.ensures) ∙ c.at_with.ensures)
 
 pub returns-in-None : goal.returns-in-None
 returns-in-None c =
@@ -37,4 +37,4 @@ returns-in-None c =
     let e = length-scope_none q c.self.invariant c.in-None.is in
     let h : c.args.place < length (scope_of q) = subst (λ (q : Linear). c.args.place < length (scope_of q)) (sym c.self.view_is) c.requires in
     subst (λ (q : Linear). slice_get (scope_of q) c.args.place ≡ Some c.index.result.now.1) c.self.view_is
-        (ap (λ xs. slice_get xs c.args.place) (scope_none q c.self.invariant c.in-None.is) ∙ read_at c.self.inside.terms.items c.args.place c.index.result.now (omega (arith, e, h)) c.index.ensures)
+    (ap (λ xs. slice_get xs c.args.place) (scope_none q c.self.invariant c.in-None.is) ∙ read_at c.self.inside.terms.items c.args.place c.index.result.now (omega (arith, e, h)) c.index.ensures)
