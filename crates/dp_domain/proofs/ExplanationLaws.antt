@@ -1,21 +1,20 @@
 -- Descriptions and explanations: a description gives the scope the state's values, an explanation suffices and no atom of it can be left out.
-use Rattle.std.proofs.Common.{◌≡◌, ℕ, ◌+◌, ◌<◌, ◌≤◌, Bool, true, false, cond, not, ◌&&◌, ◌⊎◌, List, [], ◌∷◌, ◌++◌, length, take, map, ℤ, ◌≤ℤ◌, ◌<ℤ◌, int_le, int_lt, Option, Some, None, refl, sym, ◌∙◌, ap, subst, inl, inr, arith}
-use Rattle.std.specs.List.{filter, list_any, flat_map}
+use Rattle.std.proofs.Common.{◌≡◌, ℕ, ◌<◌, ◌≤◌, Bool, true, false, cond, not, ◌&&◌, List, [], ◌∷◌, ◌++◌, length, take, map, ℤ, ◌≤ℤ◌, ◌<ℤ◌, int_le, int_lt, Option, Some, None, refl, sym, ◌∙◌, ap, subst, inl, inr, arith}
+use Rattle.std.specs.List.{filter, flat_map}
 use Rattle.std.proofs.lemmas.Int.{ints}
-use Rattle.std.proofs.lemmas.Bool.{false≢true, both_ways, cases_Bool, cases_eq, cases_lt, and_parts, and_from, not-true, not_from_false, false_from_ne_true, true_from_ne_false}
+use Rattle.std.proofs.lemmas.Bool.{both_ways, cases_Bool, cases_eq, cases_lt, and_parts, and_from, not-true, not_from_false, false_from_ne_true}
 use Rattle.std.proofs.lemmas.List.{append_assoc, append-nil, take_all}
-use Rattle.std.proofs.lemmas.Option.{same_Some}
-use Rattle.dp_base.specs.Lists.{Among, Each}
-use Rattle.dp_base.proofs.Lists.{Among-append_left, Among-append_right, Among-append_cases, Among-filter_only, Among-filter_all, Each-among, Each-from_among, list_any-some, list_any-at, list_any-none}
+use Rattle.dp_base.specs.Lists.{Among}
+use Rattle.dp_base.proofs.Lists.{Among-append_left, Among-append_right, Among-append_cases, Among-filter_only, Among-filter_all, Each-among, Each-from_among, list_any-none}
 use Rattle.dp_domain.specs.Atoms.{Atomic, meets, negated}
 use Rattle.dp_domain.specs.Sets.{IsAscending, IsDomain, least, greatest}
 use Rattle.dp_domain.specs.States.{Domains, values, is_dead, entails, cut, cut_all, AreOf, IsWithin}
 use Rattle.dp_domain.specs.Faces.{Face, Covers, AgreesOn, IsLawful}
 use Rattle.dp_domain.specs.Turns.{at_least, at_most, other_than}
-use Rattle.dp_domain.specs.Explanations.{is_less, bound_atom, has, is_hole, described, description, Describes, failing, IsOpen, suffices, needed, explanation, Explains}
-use Rattle.dp_domain.proofs.AtomLaws.{le-from_test, test-from_le, same-from_tests, tests-from_same, apart-from_tests, order_cases, negated-negated}
+use Rattle.dp_domain.specs.Explanations.{is_less, bound_atom, has, is_hole, described, description, Describes, failing, IsOpen, suffices, needed, Explains}
+use Rattle.dp_domain.proofs.AtomLaws.{le-from_test, test-from_le, apart-from_tests, order_cases, negated-negated}
 use Rattle.dp_domain.proofs.SetLaws.{ascending-same, IsAscending-filter, least-bound, least-among, greatest-bound, greatest-among}
-use Rattle.dp_domain.proofs.StateLaws.{length-cut, values-cut_same, cut-past, values-cut_other, within-from_value, Among-cut_all, IsWithin-refl, IsWithin-trans, IsWithin-cut, IsWithin-into_cut, IsWithin-cut_all, length-cut_all, entails-at, entails-from, entails-fails, entails-cut_all, entails-from_dead_cut, alive-within}
+use Rattle.dp_domain.proofs.StateLaws.{values-cut_same, cut-past, values-cut_other, within-from_value, Among-cut_all, IsWithin-into_cut, IsWithin-cut_all, length-cut_all, entails-at, entails-from, entails-fails, entails-cut_all, entails-from_dead_cut, alive-within}
 use Rattle.dp_domain.proofs.ScopeLaws.{Covers-at, Covers-count, Covers-within, AgreesOn-cut}
 use Rattle.dp_domain.proofs.BoundLaws.{alive-least, alive-greatest}
 use Rattle.dp_domain.proofs.ExplanationSteps.{AreSets, from_has, cut_all-append}

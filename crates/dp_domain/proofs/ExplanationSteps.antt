@@ -1,17 +1,17 @@
 -- Steps of the code of descriptions and explanations.
-use Rattle.std.proofs.Common.{◌≡◌, ℕ, zero, suc, ◌+◌, ◌<◌, ◌≤◌, Bool, true, false, cond, not, ◌&&◌, List, [], ◌∷◌, ◌++◌, length, get_or, take, drop, map, ℤ, pos, int_le, ◌↔◌, Option, Some, slice_get, refl, sym, ◌∙◌, ap, subst, inl, inr, arith}
-use Rattle.std.specs.List.{filter, list_any}
+use Rattle.std.proofs.Common.{◌≡◌, ℕ, ◌+◌, ◌<◌, Bool, true, false, not, ◌&&◌, List, [], ◌∷◌, ◌++◌, length, get_or, take, map, ℤ, pos, int_le, ◌↔◌, Option, Some, slice_get, refl, sym, ◌∙◌, ap, subst}
+use Rattle.std.specs.List.{filter}
 use Rattle.std.proofs.lemmas.Bool.{false_from_ne_true, false≢true}
-use Rattle.std.proofs.lemmas.List.{append_assoc, map-append, take_more, drop_more}
+use Rattle.std.proofs.lemmas.List.{append_assoc, map-append, take_more}
 use Rattle.std.proofs.lemmas.List.Elements.{filter-append}
 use Rattle.std.proofs.lemmas.Option.{slice_get_within, get_or_from_slice_get}
 use Rattle.dp_base.specs.Lists.{Among, Each}
-use Rattle.dp_base.proofs.Lists.{Each-weaker, Each-append, Each-get_or, list_any-some, list_any-at}
+use Rattle.dp_base.proofs.Lists.{Each-weaker, list_any-some, list_any-at}
 use Rattle.dp_domain.specs.Atoms.{Atomic}
 use Rattle.dp_domain.specs.Sets.{IsDomain, IsSmall, least, greatest}
 use Rattle.dp_domain.specs.States.{Domains, values, cut, cut_all, AreOf}
 use Rattle.dp_domain.specs.Faces.{Face, Covers}
-use Rattle.dp_domain.specs.Explanations.{has, failing, suffices, needed, Describes}
+use Rattle.dp_domain.specs.Explanations.{has, failing, suffices, Describes}
 use Rattle.dp_domain.proofs.AtomLaws.{same-from_tests, tests-from_same}
 use Rattle.dp_domain.proofs.SetLaws.{IsSmall-among, least-among, greatest-among}
 use Rattle.dp_domain.proofs.StateLaws.{length-cut_all}
@@ -88,35 +88,3 @@ pub all_cuts : (f : Face) (i s t u v : Domains) (kept rest : List Atomic) (targe
 all_cuts f i s t u v kept rest target e g h k =
     ap f.test (k ∙ ap (λ d. cut_all d (failing target)) (h ∙ ap (λ d. cut_all d rest) (g ∙ ap (λ d. cut_all d kept) e) ∙ sym (cut_all-append i kept rest))
     ∙ sym (cut_all-append i (kept ++ rest) (failing target)))
-
--- ---- dropping atoms
-
-each_drop : (P : Atomic → Type 0) (i : ℕ) (xs : List Atomic) → Each P xs → Each P (drop i xs)
-each_drop P zero xs e = e
-each_drop P (suc i) [] e = tt
-each_drop P (suc i) (x ∷ xs) e = each_drop P i xs e.1
-
--- the atoms from a place on are atoms of the state
-pub of_rest : (d : Domains) (i : ℕ) (xs rest : List Atomic) → rest ≡ drop i xs → AreOf d xs → AreOf d rest
-of_rest d i xs rest e h = subst (AreOf d) (sym e) (each_drop (λ (a : Atomic). a.var < length d) i xs h)
-
-needed_cond : (f : Face) (i : Domains) (target : Option Atomic) (kept now rest : List Atomic) (a : Atomic) (b : Bool) → now ≡ cond b kept (kept ++ a ∷ []) → needed f i target now rest ≡ cond b (needed f i target kept rest) (needed f i target (kept ++ a ∷ []) rest)
-needed_cond f i target kept now rest a true e = ap (λ ks. needed f i target ks rest) e
-needed_cond f i target kept now rest a false e = ap (λ ks. needed f i target ks rest) e
-
-of_cond : (d : Domains) (kept now : List Atomic) (a : Atomic) (b : Bool) → now ≡ cond b kept (kept ++ a ∷ []) → a.var < length d → AreOf d kept → AreOf d now
-of_cond d kept now a true e h k = subst (AreOf d) (sym e) k
-of_cond d kept now a false e h k = subst (AreOf d) (sym e) (Each-append (λ (c : Atomic). c.var < length d) kept (a ∷ []) k (h, tt))
-
--- one atom further
-pub needed_more : (f : Face) (i : Domains) (target : Option Atomic) (kept now atoms rest whole : List Atomic) (place : ℕ) (a : Atomic) → place < length atoms → a ≡ get_or atoms place a → rest ≡ drop (place + 1) atoms
-    → now ≡ cond (suffices f i target (kept ++ rest)) kept (kept ++ a ∷ []) → needed f i target kept (drop place atoms) ≡ whole → needed f i target now (drop (place + 1) atoms) ≡ whole
-needed_more f i target kept now atoms rest whole place a h e r n w =
-    let s : a ∷ rest ≡ drop place atoms = ap (λ (c : Atomic). c ∷ rest) e ∙ ap (λ ys. get_or atoms place a ∷ ys) r ∙ sym (drop_more atoms place a h) in
-    ap (needed f i target now) (sym r) ∙ needed_cond f i target kept now rest a (suffices f i target (kept ++ rest)) n ∙ ap (needed f i target kept) s ∙ w
-
-pub of_kept : (f : Face) (d : Domains) (target : Option Atomic) (kept now atoms rest : List Atomic) (place : ℕ) (a : Atomic) → place < length atoms → a ≡ get_or atoms place a → AreOf d atoms
-    → now ≡ cond (suffices f d target (kept ++ rest)) kept (kept ++ a ∷ []) → AreOf d kept → AreOf d now
-of_kept f d target kept now atoms rest place a h e s n k =
-    of_cond d kept now a (suffices f d target (kept ++ rest)) n
-    (subst (λ (c : Atomic). c.var < length d) (sym e) (Each-get_or (λ (c : Atomic). c.var < length d) atoms place a h s)) k

@@ -1,12 +1,12 @@
 -- Laws of sets of integers as ascending lists: one list for one set, least and greatest, what a filter keeps.
-use Rattle.std.proofs.Common.{◌≡◌, ℕ, zero, suc, ◌<◌, ◌-◌, Bool, true, false, cond, ◌⊎◌, List, [], ◌∷◌, ◌++◌, length, ℤ, ◌≤ℤ◌, ◌<ℤ◌, int_lt, int_le, slice_get, Option, Some, None, refl, sym, ◌∙◌, ap, subst, inl, inr, arith}
+use Rattle.std.proofs.Common.{◌≡◌, ℕ, suc, ◌-◌, Bool, true, false, cond, ◌⊎◌, List, [], ◌∷◌, ◌++◌, length, ℤ, ◌≤ℤ◌, ◌<ℤ◌, int_lt, slice_get, Some, refl, sym, ◌∙◌, ap, subst, inl, inr, arith}
 use Rattle.std.specs.Int.{int_min, int_max}
 use Rattle.std.specs.List.{filter}
 use Rattle.std.proofs.lemmas.Int.{ints}
 use Rattle.std.proofs.lemmas.Bool.{cases_Bool, cond-true, cond-false}
 use Rattle.std.proofs.lemmas.Option.{same_Some, none-some}
 use Rattle.dp_base.specs.Lists.{Among, Each}
-use Rattle.dp_base.proofs.Lists.{Each-among, Each-from_among, Each-weaker, Each-append, Each-filter, Among-filter_only, Among-filter_all, Among-append_cases}
+use Rattle.dp_base.proofs.Lists.{Each-among, Each-append, Each-filter}
 use Rattle.dp_domain.specs.Sets.{IsAscending, IsSmall, IsDomain, Collects, least_from, least, greatest_from, greatest}
 
 -- ---- one ascending list for one set

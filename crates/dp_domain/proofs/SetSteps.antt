@@ -1,5 +1,5 @@
 -- Steps of the code of domains: a run of numbers, sorting, searching, filtering, intervals.
-use Rattle.std.proofs.Common.{◌≡◌, ℕ, zero, suc, ◌+◌, ◌-◌, ◌<◌, ◌≤◌, Bool, true, false, cond, not, ◌&&◌, nat_lt, ltb, ◌⊎◌, List, [], ◌∷◌, ◌++◌, length, get_or, take, ℤ, pos, ◌+ℤ◌, ◌-ℤ◌, ◌≤ℤ◌, ◌<ℤ◌, int_le, IsTrue, IsPermutation, Contains, Result, Ok, Err, Option, Some, option_to_list, refl, sym, ◌∙◌, ap, subst, inl, inr, arith, ⊎_elim}
+use Rattle.std.proofs.Common.{◌≡◌, ℕ, zero, suc, ◌+◌, ◌<◌, ◌≤◌, Bool, true, false, cond, not, ◌&&◌, nat_lt, ◌⊎◌, List, [], ◌∷◌, ◌++◌, length, get_or, take, ℤ, pos, ◌+ℤ◌, ◌-ℤ◌, ◌≤ℤ◌, ◌<ℤ◌, int_le, IsTrue, IsPermutation, Result, Ok, Err, Option, Some, option_to_list, refl, sym, ◌∙◌, ap, subst, inl, inr, arith}
 use Rattle.std.specs.declared.cmp.Ordering.{Ordering}
 use Rattle.std.specs.declared.cmp.Ordering.TheVariants.{Less, Equal, Greater}
 use Rattle.std.specs.Ordering.{MatchOrdering, int_cmp, int_eq, is_lt, eq_by_cmp}
@@ -9,8 +9,8 @@ use Rattle.std.specs.List.{filter, list_all, dedup, AllByRecursion}
 use Rattle.std.specs.List.Retain.{IsFiltered, DiffersFromLast}
 use Rattle.std.specs.List.Sorted.{IsSorted, IsSortedBy, IsStrictlySortedBy, IsBinarySearchResult, IsSearchInRange}
 use Rattle.std.proofs.lemmas.Int.{ints}
-use Rattle.std.proofs.lemmas.Bool.{cases_Bool, cases_lt, false≢true, le-ltb, lt-ltb, ltb-true, ltb-false}
-use Rattle.std.proofs.lemmas.List.{append-nil, append_assoc, get_or_default, take_more}
+use Rattle.std.proofs.lemmas.Bool.{cases_Bool, cases_lt, false≢true, le-ltb, lt-ltb}
+use Rattle.std.proofs.lemmas.List.{append-nil, append_assoc, take_more}
 use Rattle.std.proofs.lemmas.List.Filters.{dedup_is}
 use Rattle.std.proofs.lemmas.List.Kept.{Contains-dedup, Contains-from_dedup, IsStrictlySortedBy-dedup}
 use Rattle.std.proofs.lemmas.List.Sorted.{Contains-permutation, IsPermutation-sym, searchable_from_sorted}

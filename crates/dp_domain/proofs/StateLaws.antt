@@ -1,19 +1,15 @@
 -- Laws of states: cuts, smaller states, entailed atoms, assignments within a state, empty sets.
-use Rattle.std.proofs.Common.{◌≡◌, ℕ, zero, suc, ◌<◌, ◌≤◌, Bool, true, false, not, ◌⊎◌, List, [], ◌∷◌, length, get_or, set, ℤ, ◌≤ℤ◌, ◌<ℤ◌, Option, Some, None, refl, sym, ◌∙◌, ap, subst, inl, inr, arith}
-use Rattle.std.specs.List.{filter, list_any, list_all}
-use Rattle.std.proofs.lemmas.Int.{ints}
-use Rattle.std.proofs.lemmas.Bool.{false≢true, both_ways, cases_Bool, cases_eq, cases_lt, not-true, not-false, not_from_true, not_from_false, true_from_ne_false, false_from_ne_true}
+use Rattle.std.proofs.Common.{◌≡◌, ℕ, ◌<◌, ◌≤◌, true, false, ◌⊎◌, List, [], ◌∷◌, length, get_or, set, ℤ, refl, sym, ◌∙◌, ap, subst, inl, inr}
+use Rattle.std.specs.List.{filter}
+use Rattle.std.proofs.lemmas.Bool.{false≢true, both_ways, cases_Bool, cases_eq, cases_lt, not_from_true, true_from_ne_false, false_from_ne_true}
 use Rattle.std.proofs.lemmas.List.{length-set, get_or-set_same, get_or-set_other, set-get_or, set-set, set_comm, set_past, get_or_past, get_or_default, same_lists}
 use Rattle.dp_base.specs.Lists.{Among, Each}
-use Rattle.dp_base.proofs.Lists.{Among-get_or, Contains-from_among, Among-filter_only, Among-filter_all, Each-among, Each-from_among, list_all-at, list_all-from, list_all-fails, list_all-not, list_any-some, list_any-at, list_any-none, list_any-not, filter-whole, filter-filter}
+use Rattle.dp_base.proofs.Lists.{Among-get_or, Contains-from_among, Among-filter_only, Among-filter_all, Each-among, list_all-at, list_all-from, list_all-fails, list_all-not, list_any-some, list_any-at, list_any-none, filter-whole, filter-filter}
 use Rattle.dp_domain.specs.Atoms.{Atomic, meets, negated}
-use Rattle.dp_domain.specs.declared.atom.Op.{Op}
-use Rattle.dp_domain.specs.declared.atom.Op.TheVariants.{Ge, Le, Eq, Ne}
-use Rattle.dp_domain.specs.Sets.{IsDomain, least, greatest, least_from, greatest_from}
+use Rattle.dp_domain.specs.Sets.{IsDomain}
 use Rattle.dp_domain.specs.States.{Domains, values, is_nil, is_dead, entails, entails_all, cut, cut_all, LiesIn, IsWithin}
-use Rattle.dp_domain.specs.Faces.{Covers, AgreesOn, Fixes}
-use Rattle.dp_domain.proofs.AtomLaws.{meets-negated, meets-from_not, not-from_meets, test-from_le}
-use Rattle.dp_domain.proofs.SetLaws.{ascending-same, least-bound, least-among, greatest-bound, greatest-among}
+use Rattle.dp_domain.proofs.AtomLaws.{meets-negated, meets-from_not, not-from_meets}
+use Rattle.dp_domain.proofs.SetLaws.{ascending-same}
 
 -- ---- the values of a cut
 

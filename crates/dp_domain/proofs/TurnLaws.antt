@@ -1,5 +1,5 @@
 -- The turn of a part in words of all integers: bounds land on values, and no better candidate is passed over.
-use Rattle.std.proofs.Common.{◌≡◌, ℕ, ◌<◌, ◌≤◌, Bool, true, false, not, cond, ◌&&◌, ◌⊎◌, List, [], ◌∷◌, ℤ, pos, ◌+ℤ◌, ◌-ℤ◌, ◌≤ℤ◌, ◌<ℤ◌, int_le, Option, Some, None, option_map, set, refl, sym, ◌∙◌, ap, subst, inl, inr, arith}
+use Rattle.std.proofs.Common.{◌≡◌, ℕ, ◌<◌, ◌≤◌, Bool, true, false, not, cond, ◌&&◌, List, [], ◌∷◌, ℤ, pos, ◌+ℤ◌, ◌-ℤ◌, ◌≤ℤ◌, int_le, Option, Some, None, option_map, set, refl, sym, ◌∙◌, ap, subst, inl, inr, arith}
 use Rattle.std.specs.List.{filter}
 use Rattle.std.proofs.lemmas.Int.{ints}
 use Rattle.std.proofs.lemmas.Bool.{false≢true, both_ways, cases_Bool, and_parts, and_from, not-true, not-false, not_from_false, false_from_ne_true}
@@ -8,13 +8,12 @@ use Rattle.dp_base.proofs.Lists.{Each-among, Among-filter_only, Among-filter_all
 use Rattle.dp_domain.specs.Atoms.{Atomic, meets, negated}
 use Rattle.dp_domain.specs.declared.atom.Op.{Op}
 use Rattle.dp_domain.specs.declared.atom.Op.TheVariants.{Ge, Le, Eq, Ne}
-use Rattle.dp_domain.specs.declared.found.Found.{Found}
 use Rattle.dp_domain.specs.declared.found.Found.TheVariants.{Clash, Atom}
 use Rattle.dp_domain.specs.Sets.{least, greatest, least_from, greatest_from}
 use Rattle.dp_domain.specs.States.{Domains, cut, entails, is_dead, values}
 use Rattle.dp_domain.specs.Faces.{Face}
-use Rattle.dp_domain.specs.Turns.{at_least, at_most, other_than, gives, or_else, new_lower, new_upper, new_hole, given_on, given, turn_of, is_permitted, IsCandidate, Precedes, IsFirst, IsTurn}
-use Rattle.dp_domain.proofs.AtomLaws.{le-from_test, lt-from_test, test-from_le, test-from_lt, same-from_tests, not-from_meets}
+use Rattle.dp_domain.specs.Turns.{at_least, at_most, other_than, gives, or_else, given_on, given, turn_of, is_permitted, IsCandidate, Precedes, IsTurn}
+use Rattle.dp_domain.proofs.AtomLaws.{le-from_test, lt-from_test, test-from_le, test-from_lt, same-from_tests}
 use Rattle.dp_domain.proofs.SetLaws.{least_from-bound, least_from-among, greatest_from-bound, greatest_from-among}
 use Rattle.dp_domain.proofs.StateLaws.{entails-fails, entails-from, entails-not, entails-from_dead_cut, cut-entailed}
 

@@ -1,5 +1,5 @@
 -- Steps of the search for a turn: the first value, or the last, that passes.
-use Rattle.std.proofs.Common.{◌≡◌, ℕ, zero, suc, ◌+◌, ◌-◌, ◌<◌, ◌≤◌, Bool, true, false, ◌&&◌, List, [], ◌∷◌, length, get_or, drop, ℤ, pos, ◌≤ℤ◌, ◌<ℤ◌, Option, Some, None, option_map, slice_get, is_some, refl, sym, ◌∙◌, ap, subst, inl, inr, arith}
+use Rattle.std.proofs.Common.{◌≡◌, ℕ, zero, suc, ◌+◌, ◌<◌, ◌≤◌, Bool, true, false, ◌&&◌, List, [], ◌∷◌, length, get_or, drop, ℤ, pos, ◌≤ℤ◌, ◌<ℤ◌, Option, Some, None, option_map, slice_get, is_some, refl, sym, ◌∙◌, ap, subst, inl, inr, arith}
 use Rattle.std.specs.List.{filter}
 use mir.Syntax.{w64}
 use mir.Val.{of_z, to_z}
@@ -7,10 +7,10 @@ use Rattle.std.proofs.lemmas.Int.{ints}
 use Rattle.std.proofs.lemmas.Bool.{cases_eq, cases_lt, both_ways, false≢true, true≢false}
 use Rattle.std.proofs.lemmas.List.{get_or_default, drop_more}
 use Rattle.std.proofs.lemmas.Option.{slice_get_within, get_or_from_slice_get}
-use Rattle.dp_base.specs.Lists.{Among, Each}
+use Rattle.dp_base.specs.Lists.{Among}
 use Rattle.dp_base.proofs.Lists.{Among-get_or, Among-filter_only, Among-filter_all, Contains-from_among, Each-get_or}
 use Rattle.dp_domain.specs.Atoms.{Atomic}
-use Rattle.dp_domain.specs.Sets.{IsAscending, IsDomain, IsSmall, least, greatest, least_from, greatest_from}
+use Rattle.dp_domain.specs.Sets.{IsAscending, IsDomain, IsSmall, least, greatest}
 use Rattle.dp_domain.specs.States.{Domains, values}
 use Rattle.dp_domain.specs.Faces.{Face}
 use Rattle.dp_domain.specs.Turns.{at_least, at_most, other_than, gives, or_else, given, given_on, new_lower, new_upper, new_hole}

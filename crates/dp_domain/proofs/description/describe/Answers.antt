@@ -1,4 +1,4 @@
-use Rattle.std.proofs.Common.{◌<◌, ◌≤◌, length, arith}
+use Rattle.std.proofs.Common.{arith}
 use Rattle.dp_domain.proofs.ExplanationLaws.{describes_end}
 use Rattle.dp_domain.proofs.description.describe.Goals as goal
 

@@ -1,4 +1,4 @@
-use Rattle.std.proofs.Common.{◌<◌, length, pos, arith}
+use Rattle.std.proofs.Common.{pos, arith}
 use Rattle.std.proofs.lemmas.Int.{ints}
 use Rattle.dp_base.proofs.Lists.{Each-get_or}
 use Rattle.dp_domain.specs.Sets.{IsSmall}

@@ -1,5 +1,5 @@
-use Rattle.std.proofs.Common.{refl, sym, arith}
-use Rattle.std.proofs.lemmas.Int.{ints, to_z-of_z}
+use Rattle.std.proofs.Common.{refl, arith}
+use Rattle.std.proofs.lemmas.Int.{ints}
 use Rattle.dp_domain.proofs.SetSteps.{Runs-none, Runs-more, Runs-all}
 use Rattle.dp_domain.proofs.dom.push_range.Goals as goal
 

@@ -1,4 +1,4 @@
-use Rattle.std.proofs.Common.{◌≡◌, ◌+◌, ◌-◌, ◌<◌, ◌≤◌, length, ℕ, ◌∙◌, sym, arith}
+use Rattle.std.proofs.Common.{◌-◌, length, ◌∙◌, sym, arith}
 use Rattle.dp_domain.proofs.TurnSteps.{passed, lower_found, lower_none}
 use Rattle.dp_domain.proofs.turn.new_lower.Goals as goal
 

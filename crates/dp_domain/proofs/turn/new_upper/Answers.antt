@@ -1,4 +1,4 @@
-use Rattle.std.proofs.Common.{◌<◌, ◌≤◌, length, ◌∙◌, sym, arith}
+use Rattle.std.proofs.Common.{◌∙◌, sym, arith}
 use Rattle.dp_domain.proofs.TurnSteps.{passed, upper_found, upper_none}
 use Rattle.dp_domain.proofs.turn.new_upper.Goals as goal
 
