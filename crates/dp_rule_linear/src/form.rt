@@ -1,6 +1,7 @@
 // What the two kinds share: a condition, terms and a number.
 
-ghost use Rattle.std.specs.Prelude.{◌≡◌, ℕ, ◌+◌, ◌<◌, Some, IfOk, IfErr, length, slice_get};
+ghost use Rattle.std.specs.Prelude.{◌≡◌, ℕ, ◌+◌, ◌<◌, ◌==◌, Some, IfOk, IfErr, length, slice_get};
+ghost use Rattle.std.specs.List.{list_any};
 ghost use Rattle.dp_base.specs.Lists.{Each};
 ghost use Rattle.dp_domain.specs.Faces.{Covers};
 ghost use Rattle.dp_domain.specs.Conditions.{IsApart, in_force};
@@ -106,6 +107,18 @@ impl Form {
                 var
             }
         }
+    }
+
+    /// Whether the variable is one of its own.
+    pub fn has_var(&self, var: VarId) -> bool
+        ensures { result ≡ list_any (λ y. var == y) (scope_of self.now) }
+    {
+        for place in 0..self.scope_len() {
+            if self.scope_at(place) == var {
+                return true;
+            }
+        }
+        false
     }
 
     /// Whether its condition is absent or entailed.

@@ -7,8 +7,10 @@ ghost use Rattle.dp_rule_linear.specs.Forms.{IsProper, Linear};
 ghost use Rattle.dp_rule_linear.specs.Refusals.{IsRefused};
 
 use crate::form::Form;
-use crate::{Atom, LinRefusal, Memory, Rule, State, VarId};
+use crate::{Atom, Found, LinRefusal, Memory, Rule, State, Steps, Test, VarId};
+use dp_domain::{search_explanation, search_turn};
 use std::marker::Model;
+use std::sync::ledger::Ledger;
 
 /// Unless its condition fails, the sum of its terms is at most its right side.
 #[derive(Debug, Drop)]
@@ -60,7 +62,7 @@ impl LinLe {
     }
 }
 
-impl Rule for LinLe {
+impl Test for LinLe {
     ghost face = { face_at_most };
 
     ghost clashes = { ClashesAtMost };
@@ -83,10 +85,24 @@ impl Rule for LinLe {
         self.form.scope_at(place)
     }
 
+    fn is_point(&self, _var: VarId, _value: i64) -> bool {
+        false
+    }
+
     fn clash(&self, state: &State) -> Result<bool, Memory> {
         Ok(
             state.dead()
                 || self.form.in_force(state) && self.form.least_sum(state) > self.form.rhs(),
         )
+    }
+}
+
+impl Rule for LinLe {
+    fn next<L: Ledger>(&self, state: &State, steps: &mut Steps<L>) -> Result<Option<Found>, Memory> {
+        search_turn(self, state, steps)
+    }
+
+    fn explain(&self, initial: &State, now: &State, target: Option<Atom>) -> Result<Vec<Atom>, Memory> {
+        search_explanation(self, initial, now, target)
     }
 }

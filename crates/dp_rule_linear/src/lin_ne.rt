@@ -7,8 +7,10 @@ ghost use Rattle.dp_rule_linear.specs.Forms.{IsProper, Linear};
 ghost use Rattle.dp_rule_linear.specs.Refusals.{IsRefused};
 
 use crate::form::Form;
-use crate::{Atom, LinRefusal, Memory, Rule, State, VarId};
+use crate::{Atom, Found, LinRefusal, Memory, Rule, State, Steps, Test, VarId};
+use dp_domain::{search_explanation, search_turn};
 use std::marker::Model;
+use std::sync::ledger::Ledger;
 
 /// Unless its condition fails, the sum of its terms differs from its right side.
 #[derive(Debug, Drop)]
@@ -60,7 +62,7 @@ impl LinNe {
     }
 }
 
-impl Rule for LinNe {
+impl Test for LinNe {
     ghost face = { face_differs };
 
     ghost clashes = { ClashesDiffers };
@@ -83,6 +85,10 @@ impl Rule for LinNe {
         self.form.scope_at(place)
     }
 
+    fn is_point(&self, var: VarId, _value: i64) -> bool {
+        self.form.has_var(var)
+    }
+
     fn clash(&self, state: &State) -> Result<bool, Memory> {
         Ok(
             state.dead()
@@ -90,5 +96,15 @@ impl Rule for LinNe {
                     && self.form.are_single(state)
                     && self.form.least_sum(state) == self.form.rhs(),
         )
+    }
+}
+
+impl Rule for LinNe {
+    fn next<L: Ledger>(&self, state: &State, steps: &mut Steps<L>) -> Result<Option<Found>, Memory> {
+        search_turn(self, state, steps)
+    }
+
+    fn explain(&self, initial: &State, now: &State, target: Option<Atom>) -> Result<Vec<Atom>, Memory> {
+        search_explanation(self, initial, now, target)
     }
 }
