@@ -13,6 +13,10 @@ pub record Linear : Type 0 where
   pub terms : List (ℤ × ℕ)
   pub rhs : ℤ
 
+-- the form of these parts
+abbrev pub form_of : Option Atomic → List (ℤ × ℕ) → ℤ → Linear
+form_of condition terms rhs = record { condition = condition; terms = terms; rhs = rhs }
+
 -- the sum of the numbers of the terms
 abbrev pub total : (ℤ × ℕ → ℤ) → List (ℤ × ℕ) → ℤ
 total number [] = pos 0

@@ -3,7 +3,7 @@
 ghost use Rattle.std.specs.Prelude.{◌≡◌, IfOk, IfErr};
 ghost use Rattle.dp_rule_linear.specs.Differs.{ClashesDiffers, MeetsDiffers, face_differs};
 ghost use Rattle.dp_rule_linear.specs.DiffersLaws.{differs_deciding, differs_exact, differs_lawful, differs_sound};
-ghost use Rattle.dp_rule_linear.specs.Forms.{IsProper, Linear};
+ghost use Rattle.dp_rule_linear.specs.Forms.{IsProper, form_of};
 ghost use Rattle.dp_rule_linear.specs.Refusals.{IsRefused};
 
 use crate::form::Form;
@@ -32,9 +32,9 @@ impl LinNe {
     /// that of the term before it; `BadRhs` beyond ±10^36; `BadCondition` where the condition's variable
     /// is also a term's.
     pub fn new(cond: Option<Atom>, terms: Vec<(i64, VarId)>, rhs: i128) -> Result<LinNe, LinRefusal>
-        ensures made { IfOk result (λ q. q ≡ record { condition = cond; terms = terms.items; rhs = rhs }) }
+        ensures made { IfOk result (λ q. q ≡ form_of cond terms.items rhs) }
         ensures proper { IfOk result IsProper }
-        ensures refused { IfErr result (λ refusal. IsRefused refusal (record { condition = cond; terms = terms.items; rhs = rhs })) }
+        ensures refused { IfErr result (λ refusal. IsRefused refusal (form_of cond terms.items rhs)) }
     {
         let form = Form::new(cond, terms, rhs)?;
         Ok(LinNe { form })
