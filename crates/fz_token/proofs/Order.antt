@@ -1,7 +1,7 @@
 -- The tokens of a text stand one behind another.
-use Rattle.std.proofs.Common.{◌≡◌, ℕ, zero, suc, ◌+◌, ◌-◌, ◌<◌, ◌≤◌, Bool, true, false, List, [], ◌∷◌, length, drop, Result, Ok, Err, refl, sym, ◌∙◌, ap, subst, arith, rules, inl, inr}
+use Rattle.std.proofs.Common.{◌≡◌, ℕ, suc, ◌+◌, ◌-◌, ◌<◌, ◌≤◌, false, List, [], ◌∷◌, length, drop, Result, Ok, Err, refl, sym, subst, arith, inl, inr}
 use Rattle.std.proofs.lemmas.Bool.{cases_lt}
-use Rattle.fz_token.specs.Forms.{Says, IsToken}
+use Rattle.fz_token.specs.Forms.{Says}
 use Rattle.fz_token.specs.Gap.{gap_end}
 use Rattle.fz_token.specs.Stream.{Stream, IsInOrder, stream, stream_from, led_by, start_after}
 use Rattle.fz_token.specs.Token.{token_at}
