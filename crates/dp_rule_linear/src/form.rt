@@ -5,7 +5,7 @@ ghost use Rattle.std.specs.List.{list_any};
 ghost use Rattle.dp_base.specs.Lists.{Each};
 ghost use Rattle.dp_domain.specs.Faces.{Covers};
 ghost use Rattle.dp_domain.specs.Conditions.{IsApart, in_force};
-ghost use Rattle.dp_rule_linear.specs.Forms.{IsProper, Linear, least_sum, scope_of, variables, form_of, in_force};
+ghost use Rattle.dp_rule_linear.specs.Forms.{IsProper, Linear, form_of, least_sum, scope_of, variables};
 ghost use Rattle.dp_rule_linear.specs.Differs.{are_single};
 ghost use Rattle.dp_rule_linear.specs.Refusals.{IsRefused};
 
