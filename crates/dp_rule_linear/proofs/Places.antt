@@ -1,5 +1,5 @@
 -- Where the variables of a scope stand.
-use Rattle.std.proofs.Common.{◌≡◌, ℕ, zero, suc, ◌+◌, ◌-◌, ◌<◌, ◌≤◌, ◌==◌, true, false, ◌⊎◌, List, [], ◌∷◌, Option, Some, None, length, get_or, map, ℤ, pos, refl, sym, ◌∙◌, ap, subst, inl, inr, arith}
+use Rattle.std.proofs.Common.{◌≡◌, ℕ, zero, suc, ◌+◌, ◌-◌, ◌<◌, ◌≤◌, ◌==◌, true, false, ◌⊎◌, List, [], ◌∷◌, Some, None, length, get_or, ℤ, refl, sym, ◌∙◌, ap, subst, inl, inr, arith}
 use Rattle.std.specs.List.{slice_get, list_any}
 use Rattle.std.proofs.lemmas.Bool.{cases_eq, eq-eqb, ne_eqb}
 use Rattle.std.proofs.lemmas.List.{get_or-map, get_or_default}
@@ -14,7 +14,7 @@ use Rattle.dp_rule_linear.specs.FormLaws.{variable_in_scope}
 use Rattle.dp_domain.specs.Conditions.{IsApart, with_condition}
 use Rattle.dp_rule_linear.specs.Forms.{IsGoodAt, IsProper, Linear, scope_of, term_at, variables}
 use Rattle.dp_base.specs.Scopes.{in_order, with_variable}
-use Rattle.dp_base.proofs.ScopeLaws.{IsBefore, IsSame, in_order-climbing, order_of, with_variable-after, with_variable-before, with_variable-same}
+use Rattle.dp_base.proofs.ScopeLaws.{IsBefore, IsSame, in_order-climbing, order_of, with_variable-after, with_variable-before}
 
 -- ---- the variables of good terms
 

@@ -1,5 +1,5 @@
 -- The variable is found where it stands, and nowhere else.
-use Rattle.std.proofs.Common.{◌≡◌, ◌<◌, ◌≤◌, length, arith}
+use Rattle.std.proofs.Common.{arith}
 use Rattle.dp_rule_linear.specs.Forms.{scope_of}
 use Rattle.dp_rule_linear.proofs.Places.{has_here, has_not_more, has_nowhere}
 use Rattle.dp_rule_linear.proofs.SumSteps.{eq_true, eq_false}

@@ -1,10 +1,10 @@
 -- The scope is the variables of the terms, with the condition's in its place.
 use Rattle.std.proofs.Common.{◌≡◌, ◌<◌, ◌≤◌, Some, length, ap, arith, subst, sym, ◌∙◌}
 use Rattle.std.specs.List.{slice_get}
-use Rattle.dp_base.specs.Lists.{Among, Climbs}
+use Rattle.dp_base.specs.Lists.{Climbs}
 use Rattle.dp_rule_linear.specs.Forms.{Linear, scope_of, variables, form_of}
 use Rattle.dp_base.specs.Scopes.{with_variable}
-use Rattle.dp_rule_linear.proofs.Places.{apart_some, climbs_good, length-scope_none, length-scope_some, read_at, scope_none, scope_some}
+use Rattle.dp_rule_linear.proofs.Places.{climbs_good, length-scope_none, length-scope_some, read_at, scope_none, scope_some}
 use Rattle.dp_rule_linear.proofs.form.Form.scope_at.Goals as goal
 
 pub at_with-requires-clause-climbs : goal.at_with-requires-clause-climbs

@@ -1,5 +1,5 @@
 -- The condition adds one variable.
-use Rattle.std.proofs.Common.{◌≡◌, ◌+◌, length, add-one, ap, arith, subst, sym, ◌∙◌}
+use Rattle.std.proofs.Common.{◌≡◌, ◌+◌, length, arith, subst}
 use Rattle.dp_rule_linear.specs.Forms.{Linear, form_of, scope_of}
 use Rattle.dp_rule_linear.proofs.Places.{length-scope_none, length-scope_some}
 use Rattle.dp_rule_linear.proofs.form.Form.scope_len.Goals as goal
