@@ -1,0 +1,10 @@
+pub mod Scopes
+pub mod Forms
+pub mod Refusals
+pub mod AtMost
+pub mod Differs
+pub mod ScopeLaws
+pub mod IntLaws
+pub mod FormLaws
+pub mod AtMostLaws
+pub mod DiffersLaws

@@ -1,0 +1,16 @@
+// Linear constraints as rules: a sum of at most a number, and a sum other than a number.
+#![tactic(auto)]
+
+mod form;
+mod lin_le;
+mod lin_ne;
+mod refusal;
+mod sums;
+
+pub use dp_domain::{Atom, Memory, Rule, State, VarId};
+pub use lin_le::LinLe;
+pub use lin_ne::LinNe;
+pub use refusal::LinRefusal;
+
+#[cfg(test)]
+mod tests;

@@ -1,0 +1,92 @@
+// A sum other than a number.
+
+ghost use Rattle.std.specs.Prelude.{◌≡◌, IfOk, IfErr};
+ghost use Rattle.dp_rule_linear.specs.Differs.{ClashesDiffers, MeetsDiffers, face_differs};
+ghost use Rattle.dp_rule_linear.specs.DiffersLaws.{differs_deciding, differs_exact, differs_lawful, differs_sound};
+ghost use Rattle.dp_rule_linear.specs.Forms.{IsProper, Linear};
+ghost use Rattle.dp_rule_linear.specs.Refusals.{IsRefused};
+
+use crate::form::Form;
+use crate::{Atom, LinRefusal, Memory, Rule, State, VarId};
+use std::marker::Model;
+
+/// Unless its condition fails, the sum of its terms differs from its right side.
+#[derive(Debug, Drop)]
+pub struct LinNe {
+    form: Form,
+}
+
+impl Model for LinNe {
+    ghost use Rattle.dp_rule_linear.specs.Forms.{Linear};
+
+    ghost Value = { Linear };
+
+    ghost view = { λ q. q.form };
+}
+
+impl LinNe {
+    /// The constraint, or the first refusal that applies: `TooMany` above 2,000,000 terms; `BadTerm` at
+    /// the first term whose coefficient is zero or beyond ±10^16, or whose variable is not declared after
+    /// that of the term before it; `BadRhs` beyond ±10^36; `BadCondition` where the condition's variable
+    /// is also a term's.
+    pub fn new(cond: Option<Atom>, terms: Vec<(i64, VarId)>, rhs: i128) -> Result<LinNe, LinRefusal>
+        ensures made { IfOk result (λ q. q ≡ record { condition = cond; terms = terms.items; rhs = rhs }) }
+        ensures proper { IfOk result IsProper }
+        ensures refused { IfErr result (λ refusal. IsRefused refusal (record { condition = cond; terms = terms.items; rhs = rhs })) }
+    {
+        let form = Form::new(cond, terms, rhs)?;
+        Ok(LinNe { form })
+    }
+
+    /// The atom that it waits for, if any.
+    pub fn cond(&self) -> Option<Atom>
+        ensures { result ≡ self.now.condition }
+    {
+        self.form.condition()
+    }
+
+    /// Its coefficients and variables.
+    pub fn terms(&self) -> &[(i64, VarId)]
+        ensures { result.now ≡ self.now.terms }
+    {
+        self.form.terms()
+    }
+
+    /// Its right side.
+    pub fn rhs(&self) -> i128
+        ensures { result ≡ self.now.rhs }
+    {
+        self.form.rhs()
+    }
+}
+
+impl Rule for LinNe {
+    ghost face = { face_differs };
+
+    ghost clashes = { ClashesDiffers };
+
+    ghost meets = { MeetsDiffers };
+
+    ghost exact = { differs_exact };
+
+    ghost lawful = { differs_lawful };
+
+    ghost sound = { differs_sound };
+
+    ghost deciding = { differs_deciding };
+
+    fn scope_len(&self) -> usize {
+        self.form.scope_len()
+    }
+
+    fn scope_at(&self, place: usize) -> VarId {
+        self.form.scope_at(place)
+    }
+
+    fn clash(&self, state: &State) -> Result<bool, Memory> {
+        Ok(state.dead()
+            || self.form.in_force(state)
+                && self.form.are_single(state)
+                && self.form.least_sum(state) == self.form.rhs())
+    }
+}
