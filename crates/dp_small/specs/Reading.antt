@@ -55,8 +55,8 @@ read_all read (x ∷ xs) = read x >>= λ y. read_all read xs >>= λ ys. Some (y 
 -- whether these are decimal digits, without a leading zero
 abbrev pub is_canonical : List ℕ → Bool
 is_canonical [] = false
-is_canonical (d ∷ []) = is_digit d 10
-is_canonical (d ∷ e ∷ ds) = not (d == 48) && (is_digit d 10 && (is_digit e 10 && list_all (λ b. is_digit b 10) ds))
+is_canonical (d ∷ []) = is_digit d 10 && true
+is_canonical (d ∷ e ∷ ds) = if d == 48 then false else list_all (λ b. is_digit b 10) (d ∷ e ∷ ds)
 
 -- a number up to 10^18
 abbrev pub number_of : List ℕ → Option ℕ

@@ -1,7 +1,8 @@
 // Numbers in their one spelling.
 
 ghost use Rattle.std.specs.Prelude.{◌≡◌, ◌≤◌, ◌^◌, true, SomeIff};
-ghost use Rattle.std.specs.Char.{digit_value};
+ghost use Rattle.std.specs.Char.{digit_value, is_digit};
+ghost use Rattle.std.specs.List.{list_all};
 ghost use Rattle.std.specs.Str.Parse.{digits_value};
 ghost use Rattle.dp_small.specs.Reading.{Gives, is_canonical, integer_of, negative, number_of, small_of};
 
@@ -25,17 +26,20 @@ fn digit_value(byte: u8) -> u64
     }
 }
 
+fn are_digits(bytes: &[u8]) -> bool
+    ensures { result ≡ list_all (λ b. is_digit b 10) bytes.now }
+{
+    bytes.iter().all(|byte| byte.is_ascii_digit())
+}
+
 /// Whether these are decimal digits, without a leading zero.
 fn is_canonical(digits: &[u8]) -> bool
     ensures { result ≡ is_canonical digits.now }
 {
     match digits {
         [] => false,
-        [digit] => digit.is_ascii_digit(),
-        [b'0', ..] => false,
-        [first, second, rest @ ..] => {
-            first.is_ascii_digit() && second.is_ascii_digit() && rest.iter().all(|digit| digit.is_ascii_digit())
-        }
+        [b'0', _, ..] => false,
+        [_, ..] => are_digits(digits),
     }
 }
 

@@ -1,24 +1,40 @@
 // Pieces of a text: what stands before and behind a byte, a literal, and what is left.
 
-ghost use Rattle.std.specs.Prelude.{◌≡◌, ◌==◌, IfOk, map};
+ghost use Rattle.std.specs.Prelude.{◌≡◌, ◌<◌, ◌==◌, IfOk, IfSome, drop, length, map, position};
 ghost use Rattle.std.specs.List.{slice_split};
 ghost use Rattle.dp_small.specs.Reading.{Gives, after, cut, ended};
 
 use crate::ModelFault;
-use dp_domain::Memory;
-use std::alloc::Global;
+use std::alloc::{AllocError, Global};
+
+/// The place of the first `sep`.
+fn place(bytes: &[u8], sep: u8) -> Option<usize>
+    ensures place { result ≡ position (λ b. b == sep) bytes.now }
+    ensures within { IfSome result (λ place. place < length bytes.now) }
+{
+    bytes.iter().position(|b| *b == sep)
+}
+
+/// All but the first item.
+pub fn behind_first<T>(items: &[T]) -> &[T]
+    requires { 0 < length items.now }
+    ensures { result.now ≡ drop 1 items.now }
+{
+    let (_, rest) = items.split_at(1);
+    rest
+}
 
 /// What stands before the first `sep`, and what follows it.
+#[tactic(auto, using(crate::proofs::Cuts::cut_at_place, crate::proofs::Cuts::cut_at_none))]
 pub fn cut(bytes: &[u8], sep: u8) -> Result<(&[u8], &[u8]), ModelFault>
     ensures { Gives (λ x. (x.0.now, x.1.now)) result (cut sep bytes.now) }
 {
-    let Some(place) = bytes.iter().position(|b| *b == sep) else {
-        return Err(ModelFault::NotBuilt);
-    };
-    let (front, rest) = bytes.split_at(place);
-    match rest {
-        [] => Err(ModelFault::NotBuilt),
-        [_, rest @ ..] => Ok((front, rest)),
+    match place(bytes, sep) {
+        Some(place) => {
+            let (front, rest) = bytes.split_at(place);
+            Ok((front, behind_first(rest)))
+        }
+        None => Err(ModelFault::NotBuilt),
     }
 }
 
@@ -44,8 +60,8 @@ pub fn ended(bytes: &[u8]) -> Result<(), ModelFault>
 }
 
 /// The pieces between the bytes `sep`.
-pub fn pieces(alloc: Global, bytes: &[u8], sep: u8) -> Result<Vec<&[u8]>, Memory>
+pub fn pieces(alloc: Global, bytes: &[u8], sep: u8) -> Result<Vec<&[u8]>, AllocError>
     ensures { IfOk result (λ v. map (λ x. x.now) v.items ≡ slice_split (λ b. b == sep) bytes.now) }
 {
-    Ok(bytes.split(|b| *b == sep).collect(alloc)?)
+    bytes.split(|b| *b == sep).collect(alloc)
 }
