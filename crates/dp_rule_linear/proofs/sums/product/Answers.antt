@@ -6,4 +6,4 @@ use Rattle.dp_rule_linear.proofs.sums.product.Goals as goal
 
 pub returns-clause-bounded : goal.returns-clause-bounded
 returns-clause-bounded c =
-    product_read c.args.coefficient c.args.value _ _ (omega (arith, ints)) (omega (arith, ints)) c.requires.coefficient c.requires.value
+    product_read c.args.coefficient c.args.value c.from.result c.from-2.result (omega (arith, ints)) (omega (arith, ints)) c.requires.coefficient c.requires.value
