@@ -3,6 +3,7 @@ use Rattle.std.proofs.Common.{◌≡◌, ◌≢◌, ℕ, ◌+◌, ◌≤◌, ◌
 use Rattle.std.specs.Prelude.{IfSome, IsOk, MatchBool, is_some, ℤ}
 use Rattle.std.specs.Option.{option_map}
 use Rattle.std.proofs.lemmas.Bool.{cases_Bool, eqb-true, le-leb, lt-leb}
+use Rattle.std.proofs.lemmas.List.{length-append}
 use Rattle.dp_base.specs.Lists.{Each}
 use Rattle.dp_domain.specs.declared.verdict.Verdict.{Verdict}
 use Rattle.dp_domain.specs.declared.verdict.Verdict.TheVariants.{Unsat as NoSolution}
@@ -217,3 +218,9 @@ long_log p log answer lt is = subst (λ (b : Bool). MatchBool b (AnswersRest p n
 
 pub short_log : (p : Posed) (log : List ℕ) (answer : LogAnswer) → length log ≤ 67108864 → AnswersRest p nothing 1 log answer → AnswersLog p log answer
 short_log p log answer le is = subst (λ (b : Bool). MatchBool b (AnswersRest p nothing 1 log answer) (answer ≡ NotBuilt 1)) (sym (le-leb (length log) 67108864 le)) is
+
+-- what follows a line is shorter
+pub shorter : (text front rest : List ℕ) → cut_at (λ b. eqb b 10) text ≡ Some (front, rest) → length rest < length text
+shorter text front rest e =
+    let c = cut_found (λ b. eqb b 10) text front rest e in
+    omega (arith, ap length c.whole, length-append front (c.sep ∷ rest))
