@@ -1,3 +1,4 @@
+pub mod AnswerLaws
 mod Arms
 mod Cuts
 mod FieldLaws
@@ -7,6 +8,6 @@ mod Loops
 mod NumberLaws
 mod PieceLaws
 mod SpellingLaws
-mod Solutions
+pub mod Solutions
 mod Steps
 mod VariableLaws
