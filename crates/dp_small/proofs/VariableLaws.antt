@@ -1,10 +1,11 @@
 -- A variable is read exactly from its line.
-use Rattle.std.proofs.Common.{◌≡◌, ℕ, ◌^◌, ◌≤◌, Bool, true, false, cond, eqb, List, [], ◌∷◌, ◌++◌, length, map, Option, Some, None, refl, sym, ap, subst, ◌∙◌, append_assoc, arith, inl, inr}
+use Rattle.std.proofs.Common.{◌≡◌, ℕ, ◌^◌, ◌≤◌, ◌<◌, Bool, true, false, cond, eqb, List, [], ◌∷◌, ◌++◌, length, map, Option, Some, None, refl, sym, ap, subst, ◌∙◌, append_assoc, arith, inl, inr}
 use Rattle.std.specs.Prelude.{ℤ, pos, neg_ℤ, int_le, ◌≤ℤ◌, codes}
 use Rattle.std.specs.List.{flat_map}
 use Rattle.std.proofs.lemmas.Bool.{and_from, and_parts}
 use Rattle.std.proofs.lemmas.Int.{ints}
-use Rattle.std.proofs.lemmas.List.Concat.{flat_map-cons}
+use Rattle.std.proofs.lemmas.List.Concat.{flat_map-append, flat_map-cons}
+use Rattle.std.proofs.lemmas.List.{append-nil, length-append}
 use Rattle.dp_base.specs.Lists.{Each}
 use Rattle.dp_base.specs.Names.{is_name}
 use Rattle.dp_domain.proofs.AtomLaws.{le-from_test, test-from_le}
@@ -122,3 +123,43 @@ variable_again v h =
     let e4 = name_again v.name h.name in
     let e5 = test-from_le v.least v.greatest h.ordered in
     rw (e1, e3, e4, e5) refl
+
+-- ---- variables at the front of a text
+
+text_line : (v : Variable) (rest : List ℕ) → variable_text v ++ rest ≡ variable_line v ++ 10 ∷ rest
+text_line v rest = simp append_assoc
+
+abbrev some_next : Variable × List ℕ → Option (Variable × List ℕ)
+some_next x = Some x
+
+same_next : (a b : Variable × List ℕ) → some_next a ≡ some_next b → a ≡ b
+same_next a b e = cc
+
+-- what a line at the front gives, and what follows it
+pub next_found : (text : List ℕ) (x : Variable × List ℕ) → next_of variable_of text ≡ Some x → (text ≡ variable_text x.0 ++ x.1) × IsVariable x.0
+next_found text x e =
+    let line = bound (cut 10 text) (λ line. variable_of line.0 >>= λ v. some_next (v, line.1)) x e in
+    let v = bound (variable_of line.value.0) (λ v. some_next (v, line.value.1)) x line.next in
+    let f = variable_found line.value.0 v.value v.was in
+    let made : Variable × List ℕ = (v.value, line.value.1) in
+    subst (λ (y : Variable × List ℕ). (text ≡ variable_text y.0 ++ y.1) × IsVariable y.0) (same_next made x v.next)
+    (byte_found 10 text line.value.0 line.value.1 line.was ∙ ap (λ (t : List ℕ). t ++ 10 ∷ line.value.1) f.0 ∙ sym (text_line v.value line.value.1), f.1)
+
+pub next_shorter : (text : List ℕ) (x : Variable × List ℕ) → next_of variable_of text ≡ Some x → length x.1 < length text
+next_shorter text x e =
+    let f = next_found text x e in
+    omega (arith, ap length (f.0 ∙ text_line x.0 x.1), length-append (variable_line x.0) (10 ∷ x.1))
+
+regroup : (a b c : List ℕ) → (a ++ (b ++ [])) ++ c ≡ a ++ (b ++ c)
+regroup a b c = simp (append_assoc, append-nil)
+
+pub next_spelled : (done : List Variable) (all text : List ℕ) (x : Variable × List ℕ) → all ≡ flat_map variable_text done ++ text → next_of variable_of text ≡ Some x
+    → all ≡ flat_map variable_text (done ++ x.0 ∷ []) ++ x.1
+next_spelled done all text x so_far e =
+    let f = next_found text x e in
+    so_far ∙ ap (λ (t : List ℕ). flat_map variable_text done ++ t) f.0
+    ∙ sym (ap (λ (t : List ℕ). t ++ x.1) (flat_map-append variable_text done (x.0 ∷ []) ∙ ap (λ (t : List ℕ). flat_map variable_text done ++ t) (flat_map-cons variable_text x.0 []))
+    ∙ regroup (flat_map variable_text done) (variable_text x.0) x.1)
+
+pub next_variables : (done : List Variable) (text : List ℕ) (x : Variable × List ℕ) → Each IsVariable done → next_of variable_of text ≡ Some x → Each IsVariable (done ++ x.0 ∷ [])
+next_variables done text x are e = each_append IsVariable done (x.0 ∷ []) are ((next_found text x e).1, tt)

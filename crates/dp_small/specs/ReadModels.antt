@@ -1,5 +1,6 @@
 -- How the lines of a model in the small form are read.
 use Rattle.std.specs.Prelude.{ℕ, if◌then◌else◌, Option, Some, None, List, ℤ, int_le, codes}
+use Rattle.dp_small.specs.declared.model.Declared.{Declared}
 use Rattle.dp_small.specs.Models.{Variable}
 use Rattle.dp_small.specs.Reading.{◌>>=◌, after, cut, ended, name_of, small_of}
 use Rattle.dp_small.specs.ReadLines.{is_zero}
@@ -24,6 +25,10 @@ variable_of line = do
   end ← ended cut.1
   name ← name_of cut.0
   if int_le bounds.0.0 bounds.0.1 then Some (record { name = name; least = bounds.0.0; greatest = bounds.0.1 }) else None
+
+-- a declared variable as a model has it
+abbrev pub declared_of : Declared → Variable
+declared_of d = record { name = d.name; least = d.least; greatest = d.greatest }
 
 -- what a line at the front of a text gives, and what follows it
 abbrev pub next_of : {A : Type 0} → (List ℕ → Option A) → List ℕ → Option (A × List ℕ)

@@ -1,11 +1,13 @@
 // Models in the small form.
 
-ghost use Rattle.std.specs.Prelude.{◌≡◌, IfOk, IsErrOf};
+ghost use Rattle.std.specs.Prelude.{◌≡◌, ◌++◌, None, Some, IfOk, IsErrOf, MatchOption, map};
+ghost use Rattle.std.specs.List.{flat_map};
+ghost use Rattle.dp_base.specs.Lists.{Each};
 ghost use Rattle.dp_small.specs.declared.fault.ModelFault.TheVariants.{NotBuilt};
-ghost use Rattle.dp_small.specs.Models.{IsSmallModel, SmallModel, model_text};
+ghost use Rattle.dp_small.specs.Models.{IsSmallModel, IsVariable, SmallModel, model_text, variable_text};
 ghost use Rattle.dp_small.specs.Problems.{problem_of};
 ghost use Rattle.dp_small.specs.Reading.{Gives};
-ghost use Rattle.dp_small.specs.ReadModels.{bounds_of, coefficient_of, lists_of, next_of, variable_of};
+ghost use Rattle.dp_small.specs.ReadModels.{bounds_of, coefficient_of, declared_of, lists_of, next_of, variable_of};
 
 use crate::ModelFault;
 use crate::names::name_of;
@@ -46,7 +48,7 @@ fn bounds_of(line: &[u8]) -> Result<((i64, i64), &[u8]), ModelFault>
 
 /// The variable that a line declares.
 fn variable_of(alloc: Global, line: &[u8]) -> Result<Declared, ModelFault>
-    ensures { Gives (λ v. record { name = v.name; least = v.least; greatest = v.greatest }) result (variable_of line.now) }
+    ensures { Gives declared_of result (variable_of line.now) }
 {
     let ((least, greatest), rest) = bounds_of(line)?;
     let (name, rest) = cut(after(rest, b" ")?, b';')?;
@@ -63,7 +65,9 @@ fn variable_of(alloc: Global, line: &[u8]) -> Result<Declared, ModelFault>
 }
 
 /// The variable at the front of a text and what follows its line, if one is declared there.
-fn next_variable(alloc: Global, text: &[u8]) -> Result<Option<(Declared, &[u8])>, Memory> {
+fn next_variable(alloc: Global, text: &[u8]) -> Result<Option<(Declared, &[u8])>, Memory>
+    ensures { IfOk result (λ r. MatchOption r (next_of variable_of text.now ≡ None) (λ x. next_of variable_of text.now ≡ Some (declared_of x.0, x.1.now))) }
+{
     let Some((line, rest)) = first_line(text) else {
         return Ok(None);
     };
@@ -75,7 +79,11 @@ fn next_variable(alloc: Global, text: &[u8]) -> Result<Option<(Declared, &[u8])>
 }
 
 /// The variables at the front of a text, and what follows them.
-fn variables_of(alloc: Global, text: &[u8]) -> Result<(Vec<Declared>, &[u8]), Memory> {
+fn variables_of(alloc: Global, text: &[u8]) -> Result<(Vec<Declared>, &[u8]), Memory>
+    ensures spelled { IfOk result (λ r. text.now ≡ flat_map variable_text (map declared_of r.0.items) ++ r.1.now) }
+    ensures variables { IfOk result (λ r. Each IsVariable (map declared_of r.0.items)) }
+    ensures all { IfOk result (λ r. next_of variable_of r.1.now ≡ None) }
+{
     let mut variables = Vec::new(alloc);
     let mut rest = text;
     while let Some((variable, behind)) = next_variable(alloc, rest)? {
