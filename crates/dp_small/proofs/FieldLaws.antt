@@ -88,19 +88,19 @@ op_found bytes op e =
     elim (cases_Bool (bytes_eq bytes (codes ">="))) [
       | inl ge ↦ chosen bytes (codes ">=") Ge op ge (sym (ap (λ (b : Bool). cond b (Some Ge) (not_ge bytes)) ge) ∙ e) refl
       | inr n1 ↦
-        let e1 = sym (ap (λ (b : Bool). cond b (Some Ge) (not_ge bytes)) n1) ∙ e in
-        elim (cases_Bool (bytes_eq bytes (codes "<="))) [
-          | inl le ↦ chosen bytes (codes "<=") Le op le (sym (ap (λ (b : Bool). cond b (Some Le) (not_le bytes)) le) ∙ e1) refl
-          | inr n2 ↦
-            let e2 = sym (ap (λ (b : Bool). cond b (Some Le) (not_le bytes)) n2) ∙ e1 in
-            elim (cases_Bool (bytes_eq bytes (codes "=="))) [
-              | inl eq ↦ chosen bytes (codes "==") Eq op eq (sym (ap (λ (b : Bool). cond b (Some Eq) (not_eq bytes)) eq) ∙ e2) refl
-              | inr n3 ↦
-                let e3 = sym (ap (λ (b : Bool). cond b (Some Eq) (not_eq bytes)) n3) ∙ e2 in
-                let p = passed (bytes_eq bytes (codes "!=")) Ne op e3 in
-                chosen bytes (codes "!=") Ne op p.0 (ap (λ (o : Op). Some o) p.1) refl
-            ]
-        ]
+          let e1 = sym (ap (λ (b : Bool). cond b (Some Ge) (not_ge bytes)) n1) ∙ e in
+          elim (cases_Bool (bytes_eq bytes (codes "<="))) [
+            | inl le ↦ chosen bytes (codes "<=") Le op le (sym (ap (λ (b : Bool). cond b (Some Le) (not_le bytes)) le) ∙ e1) refl
+            | inr n2 ↦
+                let e2 = sym (ap (λ (b : Bool). cond b (Some Le) (not_le bytes)) n2) ∙ e1 in
+                elim (cases_Bool (bytes_eq bytes (codes "=="))) [
+                  | inl eq ↦ chosen bytes (codes "==") Eq op eq (sym (ap (λ (b : Bool). cond b (Some Eq) (not_eq bytes)) eq) ∙ e2) refl
+                  | inr n3 ↦
+                      let e3 = sym (ap (λ (b : Bool). cond b (Some Eq) (not_eq bytes)) n3) ∙ e2 in
+                      let p = passed (bytes_eq bytes (codes "!=")) Ne op e3 in
+                      chosen bytes (codes "!=") Ne op p.0 (ap (λ (o : Op). Some o) p.1) refl
+                ]
+          ]
     ]
 
 pub op_again : (op : Op) → op_of (op_text op) ≡ Some op
@@ -193,9 +193,9 @@ pub literal_not_nought : (l : ℤ) → IsLiteral l → is_nought (signed l) ≡ 
 literal_not_nought l h =
     elim (cases_Bool (is_nought (signed l))) [
       | inl is ↦
-        let same : signed l ≡ codes "0" = (bytes_eq-Decides (signed l) (codes "0")).0 is in
-        let again : literal_of (codes "0") ≡ Some l = subst (λ (t : List ℕ). literal_of t ≡ Some l) same (literal_again l h) in
-        absurd cc
+          let same : signed l ≡ codes "0" = (bytes_eq-Decides (signed l) (codes "0")).0 is in
+          let again : literal_of (codes "0") ≡ Some l = subst (λ (t : List ℕ). literal_of t ≡ Some l) same (literal_again l h) in
+          absurd cc
       | inr isnt ↦ isnt
     ]
 

@@ -94,8 +94,8 @@ atom_found (n ∷ b ∷ fields) line e =
     (record {
       named = refl;
       tail =
-        ap (λ (t : List ℕ). t ∷ b ∷ fields) f1.0 ∙ ap (λ (t : List ℕ). decimal id.value ∷ t ∷ fields) f2.0
-        ∙ ap (λ (ts : List (List ℕ)). decimal id.value ∷ (codes "[" ++ name.value) ∷ ts) f3.spelled;
+          ap (λ (t : List ℕ). t ∷ b ∷ fields) f1.0 ∙ ap (λ (t : List ℕ). decimal id.value ∷ t ∷ fields) f2.0
+          ∙ ap (λ (ts : List (List ℕ)). decimal id.value ∷ (codes "[" ++ name.value) ∷ ts) f3.spelled;
       allowed = (f1.1, f2.1, f3.nameable);
       kind = tt;
     })
@@ -182,12 +182,12 @@ inference_found (n ∷ fields) line e =
     (record {
       named = refl;
       tail =
-        ap (λ (t : List ℕ). t ∷ fields) f1.0
-        ∙ ap (λ (ts : List (List ℕ)). decimal id.value ∷ ts)
-        (f2.whole ∙ ap (λ (t : List ℕ). front ++ t ∷ rest) (nought f2.sep f2.at)
-        ∙ ap (λ (ts : List (List ℕ)). ts ++ codes "0" ∷ rest) f3.0
-        ∙ ap (λ (ts : List (List ℕ)). map signed premises.value ++ codes "0" ∷ ts)
-        (f4.0 ∙ ap (λ (ts : List (List ℕ)). optional signed (consequent_of rest).0 ++ ts) f5.spelled));
+          ap (λ (t : List ℕ). t ∷ fields) f1.0
+          ∙ ap (λ (ts : List (List ℕ)). decimal id.value ∷ ts)
+          (f2.whole ∙ ap (λ (t : List ℕ). front ++ t ∷ rest) (nought f2.sep f2.at)
+          ∙ ap (λ (ts : List (List ℕ)). ts ++ codes "0" ∷ rest) f3.0
+          ∙ ap (λ (ts : List (List ℕ)). map signed premises.value ++ codes "0" ∷ ts)
+          (f4.0 ∙ ap (λ (ts : List (List ℕ)). optional signed (consequent_of rest).0 ++ ts) f5.spelled));
       allowed = (f1.1, f3.1, f4.1, f5.number, linear_label reason.value.1 f5.label);
       kind = (refl, f5.label);
     })
@@ -197,11 +197,13 @@ inference_again : (id : ℕ) (premises : List ℤ) (consequent : Option ℤ) (co
     → inference_of (tail_of (Inference id premises consequent constraint label)) ≡ Some (Inference id premises consequent constraint label)
 inference_again id premises consequent None label h kind = absurd (let none : false ≡ true = kind.0 in cc)
 inference_again id premises consequent (Some k) label h kind =
-    rw (positive_again id h.0,
-        cut_again is_nought (map signed premises) (codes "0") (optional signed consequent ++ (codes "c:" ++ decimal k) ∷ optional (λ l. codes "l:" ++ l) label) (literals_not_nought premises h.1) refl,
-        read_all_again literal_of signed IsLiteral literal_again premises h.1,
-        consequent_again consequent (decimal k) (optional (λ l. codes "l:" ++ l) label) h.2,
-        reason_again k label h.3 kind.1) refl
+    rw (
+      positive_again id h.0,
+      cut_again is_nought (map signed premises) (codes "0") (optional signed consequent ++ (codes "c:" ++ decimal k) ∷ optional (λ l. codes "l:" ++ l) label) (literals_not_nought premises h.1) refl,
+      read_all_again literal_of signed IsLiteral literal_again premises h.1,
+      consequent_again consequent (decimal k) (optional (λ l. codes "l:" ++ l) label) h.2,
+      reason_again k label h.3 kind.1,
+    ) refl
 
 -- ---- nogoods
 
@@ -243,9 +245,9 @@ clause_found fields clause (Some cut) was e =
     subst (λ (c : List ℤ × List ℕ). IsClause fields c) (same_clause made clause hints.next)
     (record {
       spelled =
-        f.whole ∙ ap (λ (t : List ℕ). cut.0 ++ t ∷ cut.1) (nought f.sep f.at)
-        ∙ ap (λ (ts : List (List ℕ)). ts ++ codes "0" ∷ cut.1) r.0
-        ∙ ap (λ (ts : List (List ℕ)). map signed atoms.value ++ ts) s.0;
+          f.whole ∙ ap (λ (t : List ℕ). cut.0 ++ t ∷ cut.1) (nought f.sep f.at)
+          ∙ ap (λ (ts : List (List ℕ)). ts ++ codes "0" ∷ cut.1) r.0
+          ∙ ap (λ (ts : List (List ℕ)). map signed atoms.value ++ ts) s.0;
       atoms = r.1;
       hints = s.1;
     })
@@ -271,9 +273,11 @@ clause_again : (atoms : List ℤ) (hints : List ℕ) → Each IsLiteral atoms �
 clause_again atoms [] a h =
     rw (append-nil (map signed atoms), cut_nowhere is_nought (map signed atoms) (literals_not_nought atoms a), read_all_again literal_of signed IsLiteral literal_again atoms a) refl
 clause_again atoms (k ∷ hints) a h =
-    rw (cut_again is_nought (map signed atoms) (codes "0") (map (λ j. decimal j) (k ∷ hints)) (literals_not_nought atoms a) refl,
-        read_all_again literal_of signed IsLiteral literal_again atoms a,
-        read_all_again positive_of (λ j. decimal j) IsNumber positive_again (k ∷ hints) h) refl
+    rw (
+      cut_again is_nought (map signed atoms) (codes "0") (map (λ j. decimal j) (k ∷ hints)) (literals_not_nought atoms a) refl,
+      read_all_again literal_of signed IsLiteral literal_again atoms a,
+      read_all_again positive_of (λ j. decimal j) IsNumber positive_again (k ∷ hints) h,
+    ) refl
 
 nogood_again : (id : ℕ) (atoms : List ℤ) (hints : List ℕ) → IsAllowed (Nogood id atoms hints) → nogood_of (tail_of (Nogood id atoms hints)) ≡ Some (Nogood id atoms hints)
 nogood_again id atoms hints h = rw (positive_again id h.0, clause_again atoms hints h.1 h.2) refl
@@ -316,19 +320,19 @@ kind_found tag kind e =
     elim (cases_Bool (bytes_eq tag (codes "a"))) [
       | inl a ↦ chosen tag (codes "a") AtomLine kind a (sym (ap (λ (b : Bool). cond b (Some AtomLine) (not_a tag)) a) ∙ e) refl
       | inr n1 ↦
-        let e1 = sym (ap (λ (b : Bool). cond b (Some AtomLine) (not_a tag)) n1) ∙ e in
-        elim (cases_Bool (bytes_eq tag (codes "i"))) [
-          | inl i ↦ chosen tag (codes "i") InferenceLine kind i (sym (ap (λ (b : Bool). cond b (Some InferenceLine) (not_i tag)) i) ∙ e1) refl
-          | inr n2 ↦
-            let e2 = sym (ap (λ (b : Bool). cond b (Some InferenceLine) (not_i tag)) n2) ∙ e1 in
-            elim (cases_Bool (bytes_eq tag (codes "n"))) [
-              | inl n ↦ chosen tag (codes "n") NogoodLine kind n (sym (ap (λ (b : Bool). cond b (Some NogoodLine) (not_n tag)) n) ∙ e2) refl
-              | inr n3 ↦
-                let e3 = sym (ap (λ (b : Bool). cond b (Some NogoodLine) (not_n tag)) n3) ∙ e2 in
-                let p = passed (bytes_eq tag (codes "c")) ConclusionLine kind e3 in
-                chosen tag (codes "c") ConclusionLine kind p.0 (ap (λ (k : Kind). Some k) p.1) refl
-            ]
-        ]
+          let e1 = sym (ap (λ (b : Bool). cond b (Some AtomLine) (not_a tag)) n1) ∙ e in
+          elim (cases_Bool (bytes_eq tag (codes "i"))) [
+            | inl i ↦ chosen tag (codes "i") InferenceLine kind i (sym (ap (λ (b : Bool). cond b (Some InferenceLine) (not_i tag)) i) ∙ e1) refl
+            | inr n2 ↦
+                let e2 = sym (ap (λ (b : Bool). cond b (Some InferenceLine) (not_i tag)) n2) ∙ e1 in
+                elim (cases_Bool (bytes_eq tag (codes "n"))) [
+                  | inl n ↦ chosen tag (codes "n") NogoodLine kind n (sym (ap (λ (b : Bool). cond b (Some NogoodLine) (not_n tag)) n) ∙ e2) refl
+                  | inr n3 ↦
+                      let e3 = sym (ap (λ (b : Bool). cond b (Some NogoodLine) (not_n tag)) n3) ∙ e2 in
+                      let p = passed (bytes_eq tag (codes "c")) ConclusionLine kind e3 in
+                      chosen tag (codes "c") ConclusionLine kind p.0 (ap (λ (k : Kind). Some k) p.1) refl
+                ]
+          ]
     ]
 
 by_found : (kind : Kind) (fields : List (List ℕ)) (line : Line) → line_by kind fields ≡ Some line → IsLineOf (tag_text kind) fields line

@@ -54,9 +54,9 @@ lines_none (b ∷ bytes) e =
     elim (cases_Bool (eqb b 10)) [
       | inl is ↦ absurd (let some : Some ([], bytes) ≡ None = sym (ap (λ (t : Bool). cond t (Some ([], bytes)) (option_map (with_first b) (cut_at (λ x. eqb x 10) bytes))) is) ∙ e in cc)
       | inr isnt ↦
-        let later = no_first b (cut_at (λ x. eqb x 10) bytes) (sym (ap (λ (t : Bool). cond t (Some ([], bytes)) (option_map (with_first b) (cut_at (λ x. eqb x 10) bytes))) isnt) ∙ e) in
-        ap (λ (c : Lines). cond (eqb b 10) (the_lines ([] ∷ c.whole) c.rest) (with_byte b c.whole c.rest)) (lines_none bytes later)
-        ∙ ap (λ (t : Bool). cond t (the_lines ([] ∷ []) bytes) (the_lines [] (b ∷ bytes))) isnt
+          let later = no_first b (cut_at (λ x. eqb x 10) bytes) (sym (ap (λ (t : Bool). cond t (Some ([], bytes)) (option_map (with_first b) (cut_at (λ x. eqb x 10) bytes))) isnt) ∙ e) in
+          ap (λ (c : Lines). cond (eqb b 10) (the_lines ([] ∷ c.whole) c.rest) (with_byte b c.whole c.rest)) (lines_none bytes later)
+          ∙ ap (λ (t : Bool). cond t (the_lines ([] ∷ []) bytes) (the_lines [] (b ∷ bytes))) isnt
     ]
 
 -- ---- answers for what is left of a log
@@ -83,8 +83,12 @@ pub goes_on_rest : (p : Posed) (before now : Result Known StepRefusal) (number :
     → AnswersRest p (known_in now) (number + 1) rest answer → AnswersRest p (known_in before) number text answer
 goes_on_rest p before now number text front rest answer e goes later =
     subst (λ (c : Lines). Answers p (known_in before) number c.whole c.rest answer) (sym (lines_first text front rest e))
-    (inr (inr (goes.line, goes.spelled, goes.passes,
-      subst (λ (known : Known). Answers p known (number + 1) (lines_of rest).whole (lines_of rest).rest answer) goes.known later)))
+    (inr (inr (
+      goes.line,
+      goes.spelled,
+      goes.passes,
+      subst (λ (known : Known). Answers p known (number + 1) (lines_of rest).whole (lines_of rest).rest answer) goes.known later,
+    )))
 
 -- behind the last whole line the end decides
 pub end_rest : (p : Posed) (known : Known) (number : ℕ) (text : List ℕ) (answer : LogAnswer)

@@ -24,7 +24,7 @@ pub goes_on : {A B C : Type 0} (read : C → Option B) (f : A → C) (front : Li
 goes_on read f front xs i d y total lt given so_far =
     let opened : drop i xs ≡ get_or xs i d ∷ drop (i + 1) xs = rw (add-one, drop-cons xs i d lt) refl in
     let one : with_front front (read_all read (map f (drop i xs))) ≡ with_front (front ++ y ∷ []) (read_all read (map f (drop (i + 1) xs))) =
-        rw (opened, given) (regroup front y (read_all read (map f (drop (i + 1) xs)))) in
+    rw (opened, given) (regroup front y (read_all read (map f (drop (i + 1) xs)))) in
     sym one ∙ so_far
 
 pub ends : {A B C : Type 0} (read : C → Option B) (f : A → C) (front : List B) (xs : List A) (i : ℕ) (d : A) (fault : ModelFault) (total : Option (List B))

@@ -93,9 +93,9 @@ integer_found [] x e = absurd cc
 integer_found (b ∷ ds) x e =
     elim (cases_Bool (eqb b 45)) [
       | inl is ↦
-        let minus : b ≡ 45 = eqb-true b 45 is in
-        let m = minus_found ds x (sym (ap (λ (c : Bool). cond c (number_of ds >>= negative) (option_map pos (number_of (b ∷ ds)))) is) ∙ e) in
-        (ap (λ (c : ℕ). c ∷ ds) minus ∙ m.0, m.1)
+          let minus : b ≡ 45 = eqb-true b 45 is in
+          let m = minus_found ds x (sym (ap (λ (c : Bool). cond c (number_of ds >>= negative) (option_map pos (number_of (b ∷ ds)))) is) ∙ e) in
+          (ap (λ (c : ℕ). c ∷ ds) minus ∙ m.0, m.1)
       | inr isnt ↦ plus_found (b ∷ ds) x (sym (ap (λ (c : Bool). cond c (number_of ds >>= negative) (option_map pos (number_of (b ∷ ds)))) isnt) ∙ e)
     ]
 

@@ -47,11 +47,11 @@ cut_found p [] front rest e = absurd cc
 cut_found {A = A} p (x ∷ xs) front rest e =
     elim (cases_Bool (p x)) [
       | inl met ↦
-        let same : some_cut ([], xs) ≡ some_cut (front, rest) = sym (ap (λ (b : Bool). cond b (some_cut ([], xs)) (option_map (with_first x) (cut_at p xs))) met) ∙ e in
-        cut_here p x xs front rest met (fronts ([], xs) (front, rest) same) (rests ([], xs) (front, rest) same)
+          let same : some_cut ([], xs) ≡ some_cut (front, rest) = sym (ap (λ (b : Bool). cond b (some_cut ([], xs)) (option_map (with_first x) (cut_at p xs))) met) ∙ e in
+          cut_here p x xs front rest met (fronts ([], xs) (front, rest) same) (rests ([], xs) (front, rest) same)
       | inr unmet ↦
-        let m = mapped (with_first x) (cut_at p xs) (front, rest) (sym (ap (λ (b : Bool). cond b (some_cut ([], xs)) (option_map (with_first x) (cut_at p xs))) unmet) ∙ e) in
-        cut_later p x xs front rest unmet m.0 (cut_found p xs m.0.0 m.0.1 m.1) (ap (λ (d : List A × List A). d.0) m.2) (ap (λ (d : List A × List A). d.1) m.2)
+          let m = mapped (with_first x) (cut_at p xs) (front, rest) (sym (ap (λ (b : Bool). cond b (some_cut ([], xs)) (option_map (with_first x) (cut_at p xs))) unmet) ∙ e) in
+          cut_later p x xs front rest unmet m.0 (cut_found p xs m.0.0 m.0.1 m.1) (ap (λ (d : List A × List A). d.0) m.2) (ap (λ (d : List A × List A). d.1) m.2)
     ]
 
 pub cut_again : {A : Type 0} (p : A → Bool) (front : List A) (sep : A) (rest : List A) → Each (λ x. p x ≡ false) front → p sep ≡ true → cut_at p (front ++ sep ∷ rest) ≡ Some (front, rest)

@@ -74,11 +74,11 @@ place_has [] name h = absurd h
 place_has (y ∷ ys) name h =
     elim (cases_Bool (bytes_eq name y)) [
       | inl same ↦
-        ap (λ (b : Bool). get_or (y ∷ ys) (cond (not b) (1 + place_of ys name) 0) []) same ∙ sym ((bytes_eq-Decides name y).0 same)
+          ap (λ (b : Bool). get_or (y ∷ ys) (cond (not b) (1 + place_of ys name) 0) []) same ∙ sym ((bytes_eq-Decides name y).0 same)
       | inr other ↦
-        ap (λ (b : Bool). get_or (y ∷ ys) (cond (not b) (1 + place_of ys name) 0) []) other
-        ∙ ap (λ (k : ℕ). get_or (y ∷ ys) k []) (one_more (place_of ys name))
-        ∙ place_has ys name (later_among name y ys other h)
+          ap (λ (b : Bool). get_or (y ∷ ys) (cond (not b) (1 + place_of ys name) 0) []) other
+          ∙ ap (λ (k : ℕ). get_or (y ∷ ys) k []) (one_more (place_of ys name))
+          ∙ place_has ys name (later_among name y ys other h)
     ]
 
 ordered_sum : (s : List ℕ → ℤ) (declared : List (List ℕ)) (ts : List (ℤ × List ℕ)) → Each (λ t. Among t.1 declared) ts

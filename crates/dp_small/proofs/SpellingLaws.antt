@@ -89,15 +89,30 @@ claim_free Unsat kind = ((refl, tt), ((refl, (refl, (refl, (refl, (refl, tt)))))
 claim_free (BoundOn literal) kind = absurd kind
 
 fields_free : (line : Line) → IsAllowed line → IsSmallKind line → Each (IsFree 32) (tag_of line ∷ tail_of line)
-fields_free (Atom id name op value) h kind =
-    ((refl, tt), (number_free id h.0, ((refl, name_free 32 name h.1 refl), (op_free op,
-    (each_append (λ b. eqb b 32 ≡ false) (signed value) (codes "]") (signed_free 32 value (nameable_large op value h.2) blank) (refl, tt), tt)))))
-fields_free (Inference id premises consequent constraint label) h kind =
-    ((refl, tt), (number_free id h.0,
-    each_append (IsFree 32) (map signed premises) (codes "0" ∷ (optional signed consequent ++ (optional (λ k. codes "c:" ++ decimal k) constraint ++ optional (λ l. codes "l:" ++ l) label))) (literals_free premises h.1)
-    ((refl, tt),
-    each_append (IsFree 32) (optional signed consequent) (optional (λ k. codes "c:" ++ decimal k) constraint ++ optional (λ l. codes "l:" ++ l) label) (consequent_free consequent h.2)
-    (each_append (IsFree 32) (optional (λ k. codes "c:" ++ decimal k) constraint) (optional (λ l. codes "l:" ++ l) label) (constraint_free constraint h.3) (label_free label kind.1)))))
+fields_free (Atom id name op value) h kind = (
+  (refl, tt),
+  (
+    number_free id h.0,
+    (
+      (refl, name_free 32 name h.1 refl),
+      (
+        op_free op,
+        (each_append (λ b. eqb b 32 ≡ false) (signed value) (codes "]") (signed_free 32 value (nameable_large op value h.2) blank) (refl, tt), tt),
+      ),
+    ),
+  ),
+)
+fields_free (Inference id premises consequent constraint label) h kind = (
+  (refl, tt),
+  (
+    number_free id h.0,
+    each_append (IsFree 32) (map signed premises) (codes "0" ∷ (optional signed consequent ++ (optional (λ k. codes "c:" ++ decimal k) constraint ++ optional (λ l. codes "l:" ++ l) label))) (literals_free premises h.1) (
+      (refl, tt),
+      each_append (IsFree 32) (optional signed consequent) (optional (λ k. codes "c:" ++ decimal k) constraint ++ optional (λ l. codes "l:" ++ l) label) (consequent_free consequent h.2)
+          (each_append (IsFree 32) (optional (λ k. codes "c:" ++ decimal k) constraint) (optional (λ l. codes "l:" ++ l) label) (constraint_free constraint h.3) (label_free label kind.1)),
+    ),
+  ),
+)
 fields_free (Nogood id atoms hints) h kind = ((refl, tt), (number_free id h.0, each_append (IsFree 32) (map signed atoms) (hint_fields hints) (literals_free atoms h.1) (hints_free hints h.2)))
 fields_free (Delete id) h kind = absurd kind
 fields_free (Conclude claim) h kind = claim_free claim kind
@@ -166,15 +181,15 @@ inference_spaced id premises consequent constraint label =
     let e8 = spaced_optional (λ k. codes "c:" ++ decimal k) constraint in
     let e9 = spaced_optional (λ l. codes "l:" ++ l) label in
     let tail : spaced (tail_of (Inference id premises consequent constraint label))
-        ≡ field (decimal id) ++ (literals_text premises ++ (field (codes "0") ++ (field_of signed consequent ++ (field_of (λ k. codes "c:" ++ decimal k) constraint ++ field_of (λ l. codes "l:" ++ l) label)))) =
-        e1 ∙ ap (λ (t : List ℕ). field (decimal id) ++ t)
-        (e2 ∙ ap (λ (t : List ℕ). t ++ spaced (codes "0" ∷ (optional signed consequent ++ (optional (λ k. codes "c:" ++ decimal k) constraint ++ optional (λ l. codes "l:" ++ l) label)))) e6
-        ∙ ap (λ (t : List ℕ). literals_text premises ++ t)
-        (e3 ∙ ap (λ (t : List ℕ). field (codes "0") ++ t)
-        (e4 ∙ ap (λ (t : List ℕ). t ++ spaced (optional (λ k. codes "c:" ++ decimal k) constraint ++ optional (λ l. codes "l:" ++ l) label)) e7
-        ∙ ap (λ (t : List ℕ). field_of signed consequent ++ t)
-        (e5 ∙ ap (λ (t : List ℕ). t ++ spaced (optional (λ l. codes "l:" ++ l) label)) e8
-        ∙ ap (λ (t : List ℕ). field_of (λ k. codes "c:" ++ decimal k) constraint ++ t) e9)))) in
+    ≡ field (decimal id) ++ (literals_text premises ++ (field (codes "0") ++ (field_of signed consequent ++ (field_of (λ k. codes "c:" ++ decimal k) constraint ++ field_of (λ l. codes "l:" ++ l) label)))) =
+    e1 ∙ ap (λ (t : List ℕ). field (decimal id) ++ t)
+    (e2 ∙ ap (λ (t : List ℕ). t ++ spaced (codes "0" ∷ (optional signed consequent ++ (optional (λ k. codes "c:" ++ decimal k) constraint ++ optional (λ l. codes "l:" ++ l) label)))) e6
+    ∙ ap (λ (t : List ℕ). literals_text premises ++ t)
+    (e3 ∙ ap (λ (t : List ℕ). field (codes "0") ++ t)
+    (e4 ∙ ap (λ (t : List ℕ). t ++ spaced (optional (λ k. codes "c:" ++ decimal k) constraint ++ optional (λ l. codes "l:" ++ l) label)) e7
+    ∙ ap (λ (t : List ℕ). field_of signed consequent ++ t)
+    (e5 ∙ ap (λ (t : List ℕ). t ++ spaced (optional (λ l. codes "l:" ++ l) label)) e8
+    ∙ ap (λ (t : List ℕ). field_of (λ k. codes "c:" ++ decimal k) constraint ++ t) e9)))) in
     regroup7 (codes "i") (field (decimal id)) (literals_text premises) (field (codes "0")) (field_of signed consequent) (field_of (λ k. codes "c:" ++ decimal k) constraint) (field_of (λ l. codes "l:" ++ l) label)
     ∙ sym (ap (λ (t : List ℕ). codes "i" ++ t) tail)
 
@@ -185,8 +200,8 @@ nogood_spaced id atoms hints =
     let e3 = spaced-map signed atoms in
     let e4 = spaced_hints hints in
     let tail : spaced (tail_of (Nogood id atoms hints)) ≡ field (decimal id) ++ (literals_text atoms ++ hints_text hints) =
-        e1 ∙ ap (λ (t : List ℕ). field (decimal id) ++ t)
-        (e2 ∙ ap (λ (t : List ℕ). t ++ spaced (hint_fields hints)) e3 ∙ ap (λ (t : List ℕ). literals_text atoms ++ t) e4) in
+    e1 ∙ ap (λ (t : List ℕ). field (decimal id) ++ t)
+    (e2 ∙ ap (λ (t : List ℕ). t ++ spaced (hint_fields hints)) e3 ∙ ap (λ (t : List ℕ). literals_text atoms ++ t) e4) in
     regroup4 (codes "n") (field (decimal id)) (literals_text atoms) (hints_text hints) ∙ sym (ap (λ (t : List ℕ). codes "n" ++ t) tail)
 
 line_spaced : (line : Line) → IsSmallKind line → fields_text line ≡ tag_of line ++ spaced (tail_of line)
@@ -221,8 +236,8 @@ line_spelled bytes line e =
 pub line_read : (bytes : List ℕ) (line : Line) → Spells bytes line → read_line_of bytes ≡ Some line
 line_read bytes line h =
     let parts : slice_split (λ b. eqb b 32) bytes ≡ tag_of line ∷ tail_of line =
-        ap (λ (t : List ℕ). slice_split (λ b. eqb b 32) t) (h.spelled ∙ sym (joined line h.kind))
-        ∙ split_join 32 (tag_of line) (tail_of line) (fields_free line h.allowed h.kind) in
+    ap (λ (t : List ℕ). slice_split (λ b. eqb b 32) t) (h.spelled ∙ sym (joined line h.kind))
+    ∙ split_join 32 (tag_of line) (tail_of line) (fields_free line h.allowed h.kind) in
     ap (λ (b : Bool). cond b (line_of (slice_split (λ b. eqb b 32) bytes)) None) (le-leb (length bytes) (2 ^ 24) h.short)
     ∙ ap line_of parts ∙ line_again line h.allowed h.kind
 

@@ -70,15 +70,15 @@ bounds_found line b e =
     subst (λ (c : (ℤ × ℤ) × List ℕ). AreBounds line c.0 c.1) (same_bounds made b u.next)
     (record {
       spelled =
-        after_found (codes "var ") line a.value a.was
-        ∙ ap (λ (t : List ℕ). codes "var " ++ t)
-        (byte_found 46 a.value least.value.0 least.value.1 least.was
-        ∙ ap (λ (t : List ℕ). least.value.0 ++ 46 ∷ t)
-        (after_found (codes ".") least.value.1 second.value second.was
-        ∙ ap (λ (t : List ℕ). 46 ∷ t)
-        (byte_found 58 second.value greatest.value.0 greatest.value.1 greatest.was
-        ∙ ap (λ (t : List ℕ). t ++ 58 ∷ greatest.value.1) f2.0))
-        ∙ ap (λ (t : List ℕ). t ++ 46 ∷ 46 ∷ (signed u.value ++ 58 ∷ greatest.value.1)) f1.0);
+          after_found (codes "var ") line a.value a.was
+          ∙ ap (λ (t : List ℕ). codes "var " ++ t)
+          (byte_found 46 a.value least.value.0 least.value.1 least.was
+          ∙ ap (λ (t : List ℕ). least.value.0 ++ 46 ∷ t)
+          (after_found (codes ".") least.value.1 second.value second.was
+          ∙ ap (λ (t : List ℕ). 46 ∷ t)
+          (byte_found 58 second.value greatest.value.0 greatest.value.1 greatest.was
+          ∙ ap (λ (t : List ℕ). t ++ 58 ∷ greatest.value.1) f2.0))
+          ∙ ap (λ (t : List ℕ). t ++ 46 ∷ 46 ∷ (signed u.value ++ 58 ∷ greatest.value.1)) f1.0);
       least = f1.1;
       greatest = f2.1;
     })
@@ -106,15 +106,16 @@ variable_found line v e =
     let p = passed (int_le l u) (the_variable name.value l u) v name.next in
     let f1 = bounds_found line bounds.value bounds.was in
     let f2 = name_found c.value.0 name.value name.was in
-    subst (λ (w : Variable). (line ≡ variable_line w) × IsVariable w) p.1
-    (f1.spelled
-      ∙ ap (λ (t : List ℕ). codes "var " ++ (signed l ++ 46 ∷ 46 ∷ (signed u ++ 58 ∷ t)))
-      (after_found (codes " ") bounds.value.1 rest.value rest.was
-      ∙ ap (λ (t : List ℕ). 32 ∷ t)
-      (byte_found 59 rest.value c.value.0 c.value.1 c.was
-      ∙ ap (λ (t : List ℕ). c.value.0 ++ 59 ∷ t) (ended_found c.value.1 end.value end.was)
-      ∙ ap (λ (t : List ℕ). t ++ 59 ∷ []) f2.0)),
-    record { name = f2.1; least = f1.least; greatest = f1.greatest; ordered = le-from_test l u p.0 })
+    subst (λ (w : Variable). (line ≡ variable_line w) × IsVariable w) p.1 (
+      f1.spelled
+          ∙ ap (λ (t : List ℕ). codes "var " ++ (signed l ++ 46 ∷ 46 ∷ (signed u ++ 58 ∷ t)))
+          (after_found (codes " ") bounds.value.1 rest.value rest.was
+          ∙ ap (λ (t : List ℕ). 32 ∷ t)
+          (byte_found 59 rest.value c.value.0 c.value.1 c.was
+          ∙ ap (λ (t : List ℕ). c.value.0 ++ 59 ∷ t) (ended_found c.value.1 end.value end.was)
+          ∙ ap (λ (t : List ℕ). t ++ 59 ∷ []) f2.0)),
+      record { name = f2.1; least = f1.least; greatest = f1.greatest; ordered = le-from_test l u p.0 },
+    )
 
 pub variable_again : (v : Variable) → IsVariable v → variable_of (variable_line v) ≡ Some v
 variable_again v h =

@@ -111,7 +111,12 @@ fn atom_of(alloc: Global, fields: &[&[u8]]) -> Result<Line, ModelFault>
     };
     let name = bracketed_of(alloc, *bracketed)?;
     let (op, value) = condition_of(fields)?;
-    Ok(Line::Atom { id, name, op, value })
+    Ok(Line::Atom {
+        id,
+        name,
+        op,
+        value,
+    })
 }
 
 /// The literals of these fields.
@@ -192,7 +197,9 @@ fn reason_of(alloc: Global, fields: &[&[u8]]) -> Result<(u64, Option<Name>), Mod
 }
 
 /// The consequent, if the first field is one, and the fields behind it.
-fn consequent_of<'a, 'b>(fields: &'a [&'b [u8]]) -> Result<(Option<i64>, &'a [&'b [u8]]), ModelFault>
+fn consequent_of<'a, 'b>(
+    fields: &'a [&'b [u8]],
+) -> Result<(Option<i64>, &'a [&'b [u8]]), ModelFault>
     ensures { Gives (λ x. (x.0, map (λ f. f.now) x.1.now)) result (Some (consequent_of (map (λ f. f.now) fields.now))) }
 {
     match fields {

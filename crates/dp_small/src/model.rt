@@ -140,7 +140,11 @@ fn coefficient_of(bytes: &[u8]) -> Result<i64, ModelFault>
 }
 
 /// The variable of this name.
-fn place_of(alloc: Global, names: &IndexMap<Name, VarId>, bytes: &[u8]) -> Result<VarId, ModelFault> {
+fn place_of(
+    alloc: Global,
+    names: &IndexMap<Name, VarId>,
+    bytes: &[u8],
+) -> Result<VarId, ModelFault> {
     let name = Name::new(bytes.to_vec(alloc)?);
     match names.get(&name) {
         Some(var) => Ok(*var),
@@ -237,7 +241,10 @@ pub fn read_model(alloc: Global, text: &[u8]) -> Result<Problem, ModelFault>
     }
     let Variables { names, own, sets } = declare(alloc, &variables)?;
     let (constraints, elements, rest) = parts_of(alloc, &names, rest)?;
-    if constraints.len() > MOST_ITEMS || elements > MOST_TERMS || rest != b"solve satisfy;\n".as_slice() {
+    if constraints.len() > MOST_ITEMS
+        || elements > MOST_TERMS
+        || rest != b"solve satisfy;\n".as_slice()
+    {
         return Err(ModelFault::NotBuilt);
     }
     Ok(Problem::new(names, own, State::new(sets), constraints, Goal::Satisfy))

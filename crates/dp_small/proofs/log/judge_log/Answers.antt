@@ -10,7 +10,7 @@ returns-in-Some-2-clause-answer c =
     let stops = subst (λ (q : Csp). Stops (posed q) (known_in c.loop-bytes.checker.progress) c.loop-bytes.number c.in-Some.bytes.now c.in-Some-2.answer) c.loop-bytes.invariant.problem told in
     short_log (posed c.args.problem.now) c.args.log.now c.in-Some-2.answer c.if-log-gt-LONGEST.false
     (c.loop-bytes.invariant.answers c.in-Some-2.answer
-      (stops_rest (posed c.args.problem.now) (known_in c.loop-bytes.checker.progress) c.loop-bytes.number c.loop-bytes.rest.now c.in-Some.bytes.now c.in-Some.behind.now c.in-Some-2.answer c.in-Some.ensures stops))
+    (stops_rest (posed c.args.problem.now) (known_in c.loop-bytes.checker.progress) c.loop-bytes.number c.loop-bytes.rest.now c.in-Some.bytes.now c.in-Some.behind.now c.in-Some-2.answer c.in-Some.ensures stops))
 
 pub loop-bytes-smaller : goal.loop-bytes-smaller
 loop-bytes-smaller c = shorter c.loop-bytes.rest.now c.in-Some.bytes.now c.in-Some.behind.now c.in-Some.ensures
@@ -25,14 +25,14 @@ loop-bytes-preserved c =
       unsat = goes.unsat;
       count = omega (arith, shorter c.loop-bytes.rest.now c.in-Some.bytes.now c.in-Some.behind.now c.in-Some.ensures, c.loop-bytes.invariant.count);
       answers = λ answer later. c.loop-bytes.invariant.answers answer
-        (goes_on_rest (posed c.args.problem.now) c.loop-bytes.checker.progress c.judge_line.new.checker.progress c.loop-bytes.number c.loop-bytes.rest.now c.in-Some.bytes.now c.in-Some.behind.now answer c.in-Some.ensures goes later);
+          (goes_on_rest (posed c.args.problem.now) c.loop-bytes.checker.progress c.judge_line.new.checker.progress c.loop-bytes.number c.loop-bytes.rest.now c.in-Some.bytes.now c.in-Some.behind.now answer c.in-Some.ensures goes later);
     }
 
 pub returns-clause-answer : goal.returns-clause-answer
 returns-clause-answer c =
     short_log (posed c.args.problem.now) c.args.log.now c.at_end.result c.if-log-gt-LONGEST.false
     (c.loop-bytes.invariant.answers c.at_end.result
-      (end_rest (posed c.args.problem.now) (known_in c.loop-bytes.checker.progress) c.loop-bytes.number c.loop-bytes.rest.now c.at_end.result c.in_default.ensures c.at_end.ensures.answer))
+    (end_rest (posed c.args.problem.now) (known_in c.loop-bytes.checker.progress) c.loop-bytes.number c.loop-bytes.rest.now c.at_end.result c.in_default.ensures c.at_end.ensures.answer))
 
 pub returns-clause-sound : goal.returns-clause-sound
 returns-clause-sound c =

@@ -13,7 +13,7 @@ invariant-loop-bytes l = record {
   going : IsOk l.checker.progress;
   unsat : OnlyUnsat (known_in l.checker.progress);
   count : l.number + length l.rest ≤ 67108865;
-  answers : (answer : LogAnswer) → AnswersRest (posed l.problem) (known_in l.checker.progress) l.number l.rest answer → AnswersRest (posed l.problem) nothing 1 l.log answer
+  answers : (answer : LogAnswer) → AnswersRest (posed l.problem) (known_in l.checker.progress) l.number l.rest answer → AnswersRest (posed l.problem) nothing 1 l.log answer;
 }
 
 abbrev pub decreases-loop-bytes : goal.decreases-loop-bytes

@@ -8,7 +8,7 @@ use Rattle.dp_small.proofs.model.variables_of.Given as goal
 abbrev pub invariant-loop-variables : goal.invariant-loop-variables
 invariant-loop-variables l = record {
   spelled : l.text ≡ flat_map variable_text (map declared_of l.variables.items) ++ l.rest;
-  variables : Each IsVariable (map declared_of l.variables.items)
+  variables : Each IsVariable (map declared_of l.variables.items);
 }
 
 abbrev pub decreases-loop-variables : goal.decreases-loop-variables
