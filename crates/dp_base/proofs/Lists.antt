@@ -159,3 +159,14 @@ pub filter-whole : {A : Type 0} (p : A → Bool) (xs : List A) → list_all p xs
 filter-whole p [] e = refl
 filter-whole p (y ∷ ys) e = let r = and_parts (p y) (list_all p ys) e in
     subst (λ b. cond b (y ∷ filter p ys) (filter p ys) ≡ y ∷ ys) (sym r.0) (ap (λ zs. y ∷ zs) (filter-whole p ys r.1))
+
+filter_filter_step : {A : Type 0} (p q : A → Bool) (x : A) (b c : Bool) (ys zs : List A) → p x ≡ b → q x ≡ c → filter p ys ≡ filter q zs → filter p (cond c (x ∷ ys) ys) ≡ filter q (cond b (x ∷ zs) zs)
+filter_filter_step p q x true true ys zs e f g = ap (λ t. cond t (x ∷ filter p ys) (filter p ys)) e ∙ ap (λ ws. x ∷ ws) g ∙ sym (ap (λ t. cond t (x ∷ filter q zs) (filter q zs)) f)
+filter_filter_step p q x true false ys zs e f g = g ∙ sym (ap (λ t. cond t (x ∷ filter q zs) (filter q zs)) f)
+filter_filter_step p q x false true ys zs e f g = ap (λ t. cond t (x ∷ filter p ys) (filter p ys)) e ∙ g
+filter_filter_step p q x false false ys zs e f g = g
+
+-- two filters in either order
+pub filter-filter : {A : Type 0} (p q : A → Bool) (xs : List A) → filter p (filter q xs) ≡ filter q (filter p xs)
+filter-filter p q [] = refl
+filter-filter p q (x ∷ xs) = filter_filter_step p q x (p x) (q x) (filter q xs) (filter p xs) refl refl (filter-filter p q xs)

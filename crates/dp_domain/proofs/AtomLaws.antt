@@ -43,22 +43,26 @@ apart-from_tests x y e k = false≢true (sym e ∙ tests-from_same x y k)
 -- two integers are equal, or one is less
 pub order_cases : (x y : ℤ) → (x ≡ y) ⊎ ((x <ℤ y) ⊎ (y <ℤ x))
 order_cases x y = elim (cases_Bool (int_le x y)) [
-    inl e ↦ elim (cases_Bool (int_le y x)) [
-        inl f ↦ inl (same-from_tests x y (and_from (int_le x y) (int_le y x) e f))
-      | inr f ↦ inr (inl (lt-from_test y x f)) ]
-  | inr e ↦ inr (inr (lt-from_test x y e)) ]
+  | inl e ↦ elim (cases_Bool (int_le y x)) [
+    | inl f ↦ inl (same-from_tests x y (and_from (int_le x y) (int_le y x) e f))
+    | inr f ↦ inr (inl (lt-from_test y x f))
+  ]
+  | inr e ↦ inr (inr (lt-from_test x y e))
+]
 
 -- ---- negations
 
 beyond_ge : (v x : ℤ) → int_le x (v -ℤ pos 1) ≡ not (int_le v x)
 beyond_ge v x = elim (cases_Bool (int_le v x)) [
-    inl e ↦ test-from_lt x (v -ℤ pos 1) (let h = le-from_test v x e in omega (arith, ints)) ∙ sym (not_from_true (int_le v x) e)
-  | inr e ↦ test-from_le x (v -ℤ pos 1) (let h = lt-from_test v x e in omega (arith, ints)) ∙ sym (not_from_false (int_le v x) e) ]
+  | inl e ↦ test-from_lt x (v -ℤ pos 1) (let h = le-from_test v x e in omega (arith, ints)) ∙ sym (not_from_true (int_le v x) e)
+  | inr e ↦ test-from_le x (v -ℤ pos 1) (let h = lt-from_test v x e in omega (arith, ints)) ∙ sym (not_from_false (int_le v x) e)
+]
 
 beyond_le : (v x : ℤ) → int_le (v +ℤ pos 1) x ≡ not (int_le x v)
 beyond_le v x = elim (cases_Bool (int_le x v)) [
-    inl e ↦ test-from_lt (v +ℤ pos 1) x (let h = le-from_test x v e in omega (arith, ints)) ∙ sym (not_from_true (int_le x v) e)
-  | inr e ↦ test-from_le (v +ℤ pos 1) x (let h = lt-from_test x v e in omega (arith, ints)) ∙ sym (not_from_false (int_le x v) e) ]
+  | inl e ↦ test-from_lt (v +ℤ pos 1) x (let h = le-from_test x v e in omega (arith, ints)) ∙ sym (not_from_true (int_le x v) e)
+  | inr e ↦ test-from_le (v +ℤ pos 1) x (let h = lt-from_test x v e in omega (arith, ints)) ∙ sym (not_from_false (int_le x v) e)
+]
 
 not_not : (b : Bool) → b ≡ not (not b)
 not_not true = refl
@@ -116,6 +120,7 @@ meets-eq x v n = (same-from_tests n v, tests-from_same n v)
 
 -- a number meets `!= v` where it is not v
 pub meets-ne : (x : ℕ) (v n : ℤ) → (meets (record { var = x; op = Ne; value = v }) n ≡ true) ↔ (n ≡ v → ⊥)
-meets-ne x v n =
-    (λ e k. apart-from_tests n v (not-true (int_le n v && int_le v n) e) k,
-     λ k. elim (cases_Bool (int_le n v && int_le v n)) [ inl e ↦ absurd (k (same-from_tests n v e)) | inr e ↦ not_from_false (int_le n v && int_le v n) e ])
+meets-ne x v n = (
+  λ e k. apart-from_tests n v (not-true (int_le n v && int_le v n) e) k,
+  λ k. elim (cases_Bool (int_le n v && int_le v n)) [ inl e ↦ absurd (k (same-from_tests n v e)) | inr e ↦ not_from_false (int_le n v && int_le v n) e ],
+)

@@ -37,8 +37,8 @@ ascending-same (x ∷ xs) (y ∷ ys) a b f g =
     let e : x ≡ y = same_heads x y xs ys a.0 b.0 (f x (inl refl)) (g y (inl refl)) in
     same_lists_step x y xs ys e
     (ascending-same xs ys a.1 b.1
-        (λ v h. tail_among x y v xs ys e a.0 h (f v (inr h)))
-        (λ v h. tail_among y x v ys xs (sym e) b.0 h (g v (inr h))))
+    (λ v h. tail_among x y v xs ys e a.0 h (f v (inr h)))
+    (λ v h. tail_among y x v ys xs (sym e) b.0 h (g v (inr h))))
 
 -- two domains that collect the same numbers are equal
 pub Collects-same : (xs ys : List ℤ) (P : ℤ → Type 0) → IsDomain xs → IsDomain ys → Collects xs P → Collects ys P → xs ≡ ys
@@ -81,13 +81,15 @@ IsSmall-among xs d v h = Each-among IsSmall xs d.small v h
 
 lesser : (x m : ℤ) → (int_min x m ≤ℤ x) × (int_min x m ≤ℤ m) × ((int_min x m ≡ x) ⊎ (int_min x m ≡ m))
 lesser x m = elim (cases_Bool (int_lt m x)) [
-    inl e ↦ let c : int_min x m ≡ m = cond-true (int_lt m x) m x e in (omega (arith, ints), omega (arith, ints), inr c)
-  | inr e ↦ let c : int_min x m ≡ x = cond-false (int_lt m x) m x e in (omega (arith, ints), omega (arith, ints), inl c) ]
+  | inl e ↦ let c : int_min x m ≡ m = cond-true (int_lt m x) m x e in (omega (arith, ints), omega (arith, ints), inr c)
+  | inr e ↦ let c : int_min x m ≡ x = cond-false (int_lt m x) m x e in (omega (arith, ints), omega (arith, ints), inl c)
+]
 
 greater : (x m : ℤ) → (x ≤ℤ int_max x m) × (m ≤ℤ int_max x m) × ((int_max x m ≡ x) ⊎ (int_max x m ≡ m))
 greater x m = elim (cases_Bool (int_lt m x)) [
-    inl e ↦ let c : int_max x m ≡ x = cond-true (int_lt m x) x m e in (omega (arith, ints), omega (arith, ints), inl c)
-  | inr e ↦ let c : int_max x m ≡ m = cond-false (int_lt m x) x m e in (omega (arith, ints), omega (arith, ints), inr c) ]
+  | inl e ↦ let c : int_max x m ≡ x = cond-true (int_lt m x) x m e in (omega (arith, ints), omega (arith, ints), inl c)
+  | inr e ↦ let c : int_max x m ≡ m = cond-false (int_lt m x) x m e in (omega (arith, ints), omega (arith, ints), inr c)
+]
 
 -- the least is at most each value
 pub least_from-bound : (x : ℤ) (xs : List ℤ) (v : ℤ) → Among v (x ∷ xs) → least_from x xs ≤ℤ v
@@ -100,8 +102,9 @@ least_from-bound x (y ∷ ys) v (inr h) = let p = (lesser x (least_from y ys)).1
 pub least_from-among : (x : ℤ) (xs : List ℤ) → Among (least_from x xs) (x ∷ xs)
 least_from-among x [] = inl refl
 least_from-among x (y ∷ ys) = elim ((lesser x (least_from y ys)).2) [
-    inl e ↦ inl e
-  | inr e ↦ inr (subst (λ m. Among m (y ∷ ys)) (sym e) (least_from-among y ys)) ]
+  | inl e ↦ inl e
+  | inr e ↦ inr (subst (λ m. Among m (y ∷ ys)) (sym e) (least_from-among y ys))
+]
 
 -- the greatest is at least each value
 pub greatest_from-bound : (x : ℤ) (xs : List ℤ) (v : ℤ) → Among v (x ∷ xs) → v ≤ℤ greatest_from x xs
@@ -114,8 +117,9 @@ greatest_from-bound x (y ∷ ys) v (inr h) = let p = (greater x (greatest_from y
 pub greatest_from-among : (x : ℤ) (xs : List ℤ) → Among (greatest_from x xs) (x ∷ xs)
 greatest_from-among x [] = inl refl
 greatest_from-among x (y ∷ ys) = elim ((greater x (greatest_from y ys)).2) [
-    inl e ↦ inl e
-  | inr e ↦ inr (subst (λ m. Among m (y ∷ ys)) (sym e) (greatest_from-among y ys)) ]
+  | inl e ↦ inl e
+  | inr e ↦ inr (subst (λ m. Among m (y ∷ ys)) (sym e) (greatest_from-among y ys))
+]
 
 -- a value that is at most each is the least
 pub least_from-is : (x : ℤ) (xs : List ℤ) (m : ℤ) → Among m (x ∷ xs) → ((v : ℤ) → Among v (x ∷ xs) → m ≤ℤ v) → least_from x xs ≡ m

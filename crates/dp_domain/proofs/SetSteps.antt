@@ -37,13 +37,15 @@ Runs-none before first last next e = record {
 
 run_only : (xs : List ℤ) (first next later : ℤ) → later ≡ next +ℤ pos 1 → first ≤ℤ next → Collects xs (λ v. (first ≤ℤ v) × (v <ℤ next)) → (v : ℤ) → Among v (xs ++ next ∷ []) → (first ≤ℤ v) × (v <ℤ later)
 run_only xs first next later e a c v h = elim (Among-append_cases v xs (next ∷ []) h) [
-    inl k ↦ let r = c.only v k in (r.0, omega (arith, ints))
-  | inr k ↦ elim k [ inl f ↦ (omega (arith, ints), omega (arith, ints)) | inr f ↦ absurd f ] ]
+  | inl k ↦ let r = c.only v k in (r.0, omega (arith, ints))
+  | inr k ↦ elim k [ inl f ↦ (omega (arith, ints), omega (arith, ints)) | inr f ↦ absurd f ]
+]
 
 run_all : (xs : List ℤ) (first next later : ℤ) → later ≡ next +ℤ pos 1 → Collects xs (λ v. (first ≤ℤ v) × (v <ℤ next)) → (v : ℤ) → (first ≤ℤ v) × (v <ℤ later) → Among v (xs ++ next ∷ [])
 run_all xs first next later e c v h = elim (order_cases v next) [
-    inl k ↦ Among-append_right v xs (next ∷ []) (inl k)
-  | inr k ↦ elim k [ inl l ↦ Among-append_left v xs (next ∷ []) (c.all v (h.0, l)) | inr l ↦ absurd (omega (arith, ints)) ] ]
+  | inl k ↦ Among-append_right v xs (next ∷ []) (inl k)
+  | inr k ↦ elim k [ inl l ↦ Among-append_left v xs (next ∷ []) (c.all v (h.0, l)) | inr l ↦ absurd (omega (arith, ints)) ]
+]
 
 pub Runs-more : (before now later : List ℤ) (first last next after : ℤ) → IsSmall first → IsSmall last → next <ℤ (last +ℤ pos 1) → after ≡ next +ℤ pos 1 → later ≡ now ++ next ∷ [] → Runs before now first last next → Runs before later first last after
 Runs-more before now later first last next after f l h e i r =
@@ -57,7 +59,8 @@ Runs-more before now later first last next after f l h e i r =
           ascending = IsAscending-push xs next r.followed.2.ascending (Each-from_among (λ v. v <ℤ next) xs (λ v k. (c.only v k).1));
           small = Each-append IsSmall xs (next ∷ []) r.followed.2.small ((let a = r.above in omega (arith, ints), omega (arith, ints)), tt);
         },
-        record { only = run_only xs first next after e r.above c; all = run_all xs first next after e c });
+        record { only = run_only xs first next after e r.above c; all = run_all xs first next after e c },
+      );
       above = let a = r.above in omega (arith, ints);
       below = inr (omega (arith, ints));
     }
@@ -68,11 +71,15 @@ run_end first last next first' last' e f h (inr k) v p = (omega (arith, ints), o
 
 pub Runs-all : (before now : List ℤ) (first last next first' last' : ℤ) → first' ≡ first → last' ≡ last → (last +ℤ pos 1) ≤ℤ next → Runs before now first last next → IsFollowed before now (LiesBetween (first', last'))
 Runs-all before now first last next first' last' e f h r =
-    let c = r.followed.3 in
-    (r.followed.0, r.followed.1, r.followed.2, record {
-      only = λ v k. run_end first last next first' last' e f h r.below v (c.only v k);
-      all = λ v k. c.all v (omega (arith, ints), omega (arith, ints));
-    })
+    let c = r.followed.3 in (
+      r.followed.0,
+      r.followed.1,
+      r.followed.2,
+      record {
+        only = λ v k. run_end first last next first' last' e f h r.below v (c.only v k);
+        all = λ v k. c.all v (omega (arith, ints), omega (arith, ints));
+      },
+    )
 
 -- ---- filtering
 
@@ -90,8 +97,9 @@ shorter p xs ys n m e f g =
     let r = length_filter_step p xs in
     let k : n ≡ length (filter p xs) = f ∙ ap length e in
     elim (cases_Bool (list_all p xs)) [
-      inl t ↦ le-ltb n m (omega (arith, r.1 t)) ∙ sym (ap not t)
-    | inr t ↦ lt-ltb n m (omega (arith, r.2 t)) ∙ sym (ap not t) ]
+      | inl t ↦ le-ltb n m (omega (arith, r.1 t)) ∙ sym (ap not t)
+      | inr t ↦ lt-ltb n m (omega (arith, r.2 t)) ∙ sym (ap not t)
+    ]
 
 -- ---- searching
 
@@ -128,16 +136,18 @@ not_missed xs n i f g h =
     let c = Contains-from_among n xs h in
     let m = not_itself n (int_cmp n n) (int_ranks n n) in
     elim (cases_lt c.0 i) [
-      inl k ↦ m.0 (subst (λ y. int_cmp y n ≡ Less) c.2 (f c.0 n k))
-    | inr k ↦ m.1 (subst (λ y. int_cmp y n ≡ Greater) c.2 (g c.0 n k c.1)) ]
+      | inl k ↦ m.0 (subst (λ y. int_cmp y n ≡ Less) c.2 (f c.0 n k))
+      | inr k ↦ m.1 (subst (λ y. int_cmp y n ≡ Greater) c.2 (g c.0 n k c.1))
+    ]
 
 search_range : (i n : ℕ) → IsSearchInRange (Ok i) n → i < n
 search_range i n w = w
 
 pub found : (xs : List ℤ) (n m : ℤ) (r : Result ℕ ℕ) (b : Bool) → m ≡ n → IsAscending xs → IsSearchInRange r (length xs) → IsBinarySearchResult (λ y. int_cmp y m) xs r → b ≡ is_ok r → (IsTrue b → Among n xs) × (Among n xs → IsTrue b)
-found xs n m (Ok i) b k a w s e =
-    (λ _. subst (λ y. Among y xs) (same-from_equal (int_cmp (get_or xs i n) m) (get_or xs i n) m (s n) (int_ranks (get_or xs i n) m) ∙ k) (Among-get_or xs i n (search_range i (length xs) w)),
-     λ _. e)
+found xs n m (Ok i) b k a w s e = (
+  λ _. subst (λ y. Among y xs) (same-from_equal (int_cmp (get_or xs i n) m) (get_or xs i n) m (s n) (int_ranks (get_or xs i n) m) ∙ k) (Among-get_or xs i n (search_range i (length xs) w)),
+  λ _. e,
+)
 found xs n m (Err i) b k a w s e =
     let p = s (searchable_from_sorted int_cmp_total (λ (y : ℤ). y) xs m (sorted-from_ascending xs a)) in
     (λ t. absurd (false≢true (sym e ∙ t)), λ h. absurd (not_missed xs m i (λ k' d l. p.0 k' d (omega arith) l) p.1 (subst (λ y. Among y xs) (sym k) h)))
@@ -197,8 +207,9 @@ intervals_of-push (x ∷ xs) v = ap (with_value x) (intervals_of-push xs v) ∙ 
 
 next_both : (last v : ℤ) → is_next last v ≡ int_le (v -ℤ pos 1) last
 next_both last v = elim (cases_Bool (int_le (v -ℤ pos 1) last)) [
-    inl e ↦ test-from_le v (last +ℤ pos 1) (omega (arith, ints)) ∙ sym e
-  | inr e ↦ test-from_lt v (last +ℤ pos 1) (omega (arith, ints)) ∙ sym e ]
+  | inl e ↦ test-from_le v (last +ℤ pos 1) (omega (arith, ints)) ∙ sym e
+  | inr e ↦ test-from_lt v (last +ℤ pos 1) (omega (arith, ints)) ∙ sym e
+]
 
 later_at_end : (front : List (ℤ × ℤ)) (i : ℤ × ℤ) (v : ℤ) → with_later (front ++ i ∷ []) v ≡ front ++ with_later (i ∷ []) v
 later_at_end [] i v = refl
@@ -253,13 +264,15 @@ Gathers-none now e = record {
 
 gathers_only : (old xs : List ℤ) (part : List (ℤ × ℤ)) (ends : ℤ × ℤ) → Collects xs (LiesBetween ends) → Collects old (LiesInOne part) → (v : ℤ) → Among v (old ++ xs) → LiesInOne (part ++ ends ∷ []) v
 gathers_only old xs part ends c g v h = elim (Among-append_cases v old xs h) [
-    inl k ↦ let r = g.only v k in (r.0, Among-append_left r.0 part (ends ∷ []) r.1, r.2)
-  | inr k ↦ (ends, Among-append_right ends part (ends ∷ []) (inl refl), c.only v k) ]
+  | inl k ↦ let r = g.only v k in (r.0, Among-append_left r.0 part (ends ∷ []) r.1, r.2)
+  | inr k ↦ (ends, Among-append_right ends part (ends ∷ []) (inl refl), c.only v k)
+]
 
 gathers_all : (old xs : List ℤ) (part : List (ℤ × ℤ)) (ends : ℤ × ℤ) → Collects xs (LiesBetween ends) → Collects old (LiesInOne part) → (v : ℤ) → LiesInOne (part ++ ends ∷ []) v → Among v (old ++ xs)
 gathers_all old xs part ends c g v h = elim (Among-append_cases h.0 part (ends ∷ []) h.1) [
-    inl k ↦ Among-append_left v old xs (g.all v (h.0, k, h.2))
-  | inr k ↦ elim k [ inl e ↦ Among-append_right v old xs (c.all v (subst (λ q. LiesBetween q v) e h.2)) | inr f ↦ absurd f ] ]
+  | inl k ↦ Among-append_left v old xs (g.all v (h.0, k, h.2))
+  | inr k ↦ elim k [ inl e ↦ Among-append_right v old xs (c.all v (subst (λ q. LiesBetween q v) e h.2)) | inr f ↦ absurd f ]
+]
 
 gathers_push : (old now : List ℤ) (part : List (ℤ × ℤ)) (ends : ℤ × ℤ) → IsFollowed old now (LiesBetween ends) → Gathers old part → Gathers now (part ++ ends ∷ [])
 gathers_push old now part ends f g =

@@ -5,7 +5,7 @@ use Rattle.std.proofs.lemmas.Int.{ints}
 use Rattle.std.proofs.lemmas.Bool.{false≢true, both_ways, cases_Bool, cases_eq, cases_lt, not-true, not-false, not_from_true, not_from_false, true_from_ne_false, false_from_ne_true}
 use Rattle.std.proofs.lemmas.List.{length-set, get_or-set_same, get_or-set_other, set-get_or, set-set, set_comm, set_past, get_or_past, get_or_default, same_lists}
 use Rattle.dp_base.specs.Lists.{Among, Each}
-use Rattle.dp_base.proofs.Lists.{Among-get_or, Contains-from_among, Among-filter_only, Among-filter_all, Each-among, Each-from_among, list_all-at, list_all-from, list_all-fails, list_all-not, list_any-some, list_any-at, list_any-none, list_any-not, filter-whole}
+use Rattle.dp_base.proofs.Lists.{Among-get_or, Contains-from_among, Among-filter_only, Among-filter_all, Each-among, Each-from_among, list_all-at, list_all-from, list_all-fails, list_all-not, list_any-some, list_any-at, list_any-none, list_any-not, filter-whole, filter-filter}
 use Rattle.dp_domain.specs.Atoms.{Atomic, meets, negated}
 use Rattle.dp_domain.specs.declared.atom.Op.{Op}
 use Rattle.dp_domain.specs.declared.atom.Op.TheVariants.{Ge, Le, Eq, Ne}
@@ -54,8 +54,9 @@ Among-cut_meets d a v h = (among_cut_same d a v h).1
 -- a value of a cut is one of the state
 pub Among-cut_only : (d : Domains) (a : Atomic) (x : ℕ) (v : ℤ) → Among v (values (cut d a) x) → Among v (values d x)
 Among-cut_only d a x v h = elim (cases_eq x a.var) [
-    inl e ↦ subst (λ y. Among v (values d y)) (sym e) (among_cut_same d a v (subst (λ y. Among v (values (cut d a) y)) e h)).0
-  | inr n ↦ subst (λ ys. Among v ys) (values-cut_other d a x n) h ]
+  | inl e ↦ subst (λ y. Among v (values d y)) (sym e) (among_cut_same d a v (subst (λ y. Among v (values (cut d a) y)) e h)).0
+  | inr n ↦ subst (λ ys. Among v ys) (values-cut_other d a x n) h
+]
 
 among_cut_same_all : (d : Domains) (a : Atomic) (v : ℤ) → Among v (values d a.var) → meets a v ≡ true → Among v (values (cut d a) a.var)
 among_cut_same_all d a v h m = subst (λ ys. Among v ys) (sym (values-cut_same d a (within-from_value d a.var v h))) (Among-filter_all (meets a) (values d a.var) v h m)
@@ -63,8 +64,9 @@ among_cut_same_all d a v h m = subst (λ ys. Among v ys) (sym (values-cut_same d
 -- a value of the state that meets the atom, or of another variable, is one of the cut
 pub Among-cut_all : (d : Domains) (a : Atomic) (x : ℕ) (v : ℤ) → Among v (values d x) → (x ≡ a.var → meets a v ≡ true) → Among v (values (cut d a) x)
 Among-cut_all d a x v h m = elim (cases_eq x a.var) [
-    inl e ↦ subst (λ y. Among v (values (cut d a) y)) (sym e) (among_cut_same_all d a v (subst (λ y. Among v (values d y)) e h) (m e))
-  | inr n ↦ subst (λ ys. Among v ys) (sym (values-cut_other d a x n)) h ]
+  | inl e ↦ subst (λ y. Among v (values (cut d a) y)) (sym e) (among_cut_same_all d a v (subst (λ y. Among v (values d y)) e h) (m e))
+  | inr n ↦ subst (λ ys. Among v ys) (sym (values-cut_other d a x n)) h
+]
 
 -- ---- smaller states
 
@@ -115,9 +117,9 @@ same_values : (d e : Domains) → Each IsDomain d → Each IsDomain e → IsWith
 same_values d e p q f g k xs h =
     let i : k < length e = subst (λ n. k < n) g.count h in
     get_or_default d k xs [] h ∙ ascending-same (values d k) (values e k)
-        (Each-among IsDomain d p (values d k) (Among-get_or d k [] h)).ascending
-        (Each-among IsDomain e q (values e k) (Among-get_or e k [] i)).ascending
-        (λ v m. g.each k v m) (λ v m. f.each k v m)
+    (Each-among IsDomain d p (values d k) (Among-get_or d k [] h)).ascending
+    (Each-among IsDomain e q (values e k) (Among-get_or e k [] i)).ascending
+    (λ v m. g.each k v m) (λ v m. f.each k v m)
     ∙ sym (get_or_default e k xs [] i)
 
 -- two states of domains, each within the other, are equal
@@ -183,6 +185,10 @@ pub LiesIn-cut_all : (d : Domains) (s : ℕ → ℤ) (atoms : List Atomic) → L
 LiesIn-cut_all d s [] l m = l
 LiesIn-cut_all d s (a ∷ atoms) l m = LiesIn-cut_all (cut d a) s atoms (LiesIn-cut d s a l (m a (inl refl))) (λ b h. m b (inr h))
 
+-- of an assignment within a state, either it meets the atom or it is within the negation's cut
+pub LiesIn-either : (d : Domains) (s : ℕ → ℤ) (a : Atomic) → LiesIn s d → (meets a (s a.var) ≡ true) ⊎ LiesIn s (cut d (negated a))
+LiesIn-either d s a l = elim (cases_Bool (meets a (s a.var))) [ inl e ↦ inl e | inr e ↦ inr (LiesIn-cut d s (negated a) l (meets-from_not a (s a.var) e)) ]
+
 -- ---- empty sets
 
 -- the empty list has no value
@@ -246,14 +252,15 @@ pub dead-cut : (d : Domains) (a : Atomic) → a.var < length d → entails d (ne
 dead-cut d a h e =
     dead-at (cut d a) a.var (subst (λ n. a.var < n) (sym (length-cut d a)) h)
     (nil-from_test (values (cut d a) a.var) (is_nil-none (values (cut d a) a.var) (λ v m.
-        both_ways (meets a v)
-        (not-from_meets a v (entails-at d (negated a) v e (Among-cut_only d a a.var v m)))
-        (Among-cut_meets d a v m))))
+    both_ways (meets a v)
+    (not-from_meets a v (entails-at d (negated a) v e (Among-cut_only d a a.var v m)))
+    (Among-cut_meets d a v m))))
 
 dead_cut_value : (d : Domains) (a : Atomic) (x : ℕ) (v : ℤ) → values (cut d a) x ≡ [] → Among v (values d x) → (x ≡ a.var) × (meets a v ≡ false)
 dead_cut_value d a x v e h = elim (cases_eq x a.var) [
-    inl k ↦ (k, false_from_ne_true (meets a v) (λ t. subst (λ ys. Among v ys) e (Among-cut_all d a x v h (λ _. t))))
-  | inr n ↦ absurd (subst (λ ys. Among v ys) (sym (values-cut_other d a x n) ∙ e) h) ]
+  | inl k ↦ (k, false_from_ne_true (meets a v) (λ t. subst (λ ys. Among v ys) e (Among-cut_all d a x v h (λ _. t))))
+  | inr n ↦ absurd (subst (λ ys. Among v ys) (sym (values-cut_other d a x n) ∙ e) h)
+]
 
 -- where a cut of a state that is not dead is dead, the state entails the negation
 pub entails-from_dead_cut : (d : Domains) (a : Atomic) → is_dead d ≡ false → is_dead (cut d a) ≡ true → entails d (negated a) ≡ true
@@ -263,9 +270,45 @@ entails-from_dead_cut d a f t =
     let m = alive-value d r.0 f h in
     let k = dead_cut_value d a r.0 m.0 r.2 m.1 in
     entails-from d (negated a) (λ v w.
-        meets-from_not a v (dead_cut_value d a r.0 v r.2 (subst (λ y. Among v (values d y)) (sym k.0) w)).1)
+    meets-from_not a v (dead_cut_value d a r.0 v r.2 (subst (λ y. Among v (values d y)) (sym k.0) w)).1)
 
 -- a state that is not dead does not entail an atom and its negation
 pub entails-apart : (d : Domains) (a : Atomic) → is_dead d ≡ false → a.var < length d → entails d a ≡ true → entails d (negated a) ≡ false
 entails-apart d a f h e = let m = alive-value d a.var f h in
     entails-not d (negated a) m.0 m.1 (meets-negated a m.0 ∙ not_from_true (meets a m.0) (entails-at d a m.0 e m.1))
+
+-- ---- cuts in any order
+
+cut_twice : (d : Domains) (a b : Atomic) → a.var ≡ b.var → a.var < length d → cut (cut d a) b ≡ set d a.var (filter (meets b) (filter (meets a) (values d a.var)))
+cut_twice d a b e h =
+    ap (λ y. set (cut d a) y (filter (meets b) (values (cut d a) y))) (sym e)
+    ∙ ap (λ ys. set (cut d a) a.var (filter (meets b) ys)) (values-cut_same d a h)
+    ∙ set-set d a.var (filter (meets a) (values d a.var)) (filter (meets b) (filter (meets a) (values d a.var)))
+
+cut_comm_same : (d : Domains) (a b : Atomic) → a.var ≡ b.var → a.var < length d → cut (cut d a) b ≡ cut (cut d b) a
+cut_comm_same d a b e h =
+    cut_twice d a b e h
+    ∙ ap (λ ys. set d a.var ys) (filter-filter (meets b) (meets a) (values d a.var))
+    ∙ ap (λ y. set d y (filter (meets a) (filter (meets b) (values d y)))) e
+    ∙ sym (cut_twice d b a (sym e) (subst (λ y. y < length d) e h))
+
+cut_comm_apart : (d : Domains) (a b : Atomic) → (a.var ≡ b.var → ⊥) → cut (cut d a) b ≡ cut (cut d b) a
+cut_comm_apart d a b n =
+    ap (λ ys. set (cut d a) b.var (filter (meets b) ys)) (values-cut_other d a b.var (λ e. n (sym e)))
+    ∙ set_comm d a.var b.var (filter (meets a) (values d a.var)) (filter (meets b) (values d b.var)) n
+    ∙ sym (ap (λ ys. set (cut d b) a.var (filter (meets a) ys)) (values-cut_other d b a.var n))
+
+cut_comm_past : (d : Domains) (a b : Atomic) → length d ≤ a.var → cut (cut d a) b ≡ cut (cut d b) a
+cut_comm_past d a b h = ap (λ e. cut e b) (cut-past d a h) ∙ sym (cut-past (cut d b) a (subst (λ n. n ≤ a.var) (sym (length-cut d b)) h))
+
+-- two cuts give the same state in either order
+pub cut_comm : (d : Domains) (a b : Atomic) → cut (cut d a) b ≡ cut (cut d b) a
+cut_comm d a b = elim (cases_eq a.var b.var) [
+  | inl e ↦ elim (cases_lt a.var (length d)) [ inl h ↦ cut_comm_same d a b e h | inr h ↦ cut_comm_past d a b h ]
+  | inr n ↦ cut_comm_apart d a b n
+]
+
+-- a cut after several cuts is that cut before them
+pub cut_all-cut : (d : Domains) (atoms : List Atomic) (a : Atomic) → cut (cut_all d atoms) a ≡ cut_all (cut d a) atoms
+cut_all-cut d [] a = refl
+cut_all-cut d (b ∷ atoms) a = cut_all-cut (cut d b) atoms a ∙ ap (λ e. cut_all e atoms) (cut_comm d b a)

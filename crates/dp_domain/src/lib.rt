@@ -13,3 +13,6 @@ pub use dp_base::{Assignment, Memory, Name, Text};
 pub use rule::Rule;
 pub use state::State;
 pub use verdict::Verdict;
+
+#[cfg(test)]
+mod tests;

@@ -40,11 +40,11 @@ is_same_where x y e = true_both (int_le x y) (int_le y x) (sym (omega (arith, in
 -- ---- one value
 
 -- the first of these numbers; 0 of none
-first : List ℤ → ℤ
+pub first : List ℤ → ℤ
 first [] = pos 0
 first (x ∷ xs) = x
 
-only_first : (xs : List ℤ) → is_single xs ≡ true → IsOnly (first xs) xs
+pub only_first : (xs : List ℤ) → is_single xs ≡ true → IsOnly (first xs) xs
 unfolding first
 only_first [] e = absurd (false≢true e)
 only_first (x ∷ xs) e =

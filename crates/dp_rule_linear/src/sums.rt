@@ -1,7 +1,8 @@
 // Sums of terms: their variables, their least values, and whether each term may stand where it does.
 
-ghost use Rattle.std.specs.Prelude.{◌≡◌, ℕ, ◌^◌, ◌<◌, ◌≤◌, ◌↔◌, Some, IsTrue, MatchOption, length, slice_get};
+ghost use Rattle.std.specs.Prelude.{◌≡◌, ℕ, ◌^◌, ◌<◌, ◌≤◌, ◌↔◌, Some, IfNone, IfSome, IsTrue, MatchOption, length, slice_get, pos, ◌*ℤ◌};
 ghost use Rattle.dp_base.specs.Lists.{Among, Climbs, Each};
+ghost use Rattle.dp_domain.specs.Sets.{IsSmall};
 ghost use Rattle.dp_domain.specs.States.{values};
 ghost use Rattle.dp_rule_linear.specs.Forms.{IsApart, IsBounded, IsGoodAt, least_product, least_sum, variables};
 ghost use Rattle.dp_rule_linear.specs.Refusals.{IsFirstBad};
@@ -52,6 +53,30 @@ pub fn has_variable(terms: &[(i64, VarId)], var: VarId) -> bool
     false
 }
 
+/// The product of a coefficient and a value.
+fn product(coefficient: i64, value: i64) -> i128
+    requires coefficient { IsBounded (10 ^ 16) coefficient }
+    requires value { IsSmall value }
+    ensures product { result ≡ coefficient *ℤ value }
+    ensures bounded { IsBounded (10 ^ 25) result }
+{
+    i128::from(coefficient) * i128::from(value)
+}
+
+/// The value of the variable at which its product with the coefficient is least; None where it has no value.
+fn least_at(coefficient: i64, var: VarId, state: &State) -> Option<i64>
+    requires { var < length state.now }
+    ensures none { IfNone result (least_product state.now (coefficient, var) ≡ pos 0) }
+    ensures least { IfSome result (λ v. coefficient *ℤ v ≡ least_product state.now (coefficient, var)) }
+    ensures small { IfSome result IsSmall }
+{
+    if coefficient > 0 {
+        state.lower(var)
+    } else {
+        state.upper(var)
+    }
+}
+
 /// The least value of the coefficient times the variable; 0 where the variable has no value.
 fn least_product(coefficient: i64, var: VarId, state: &State) -> i128
     requires bounded { IsBounded (10 ^ 16) coefficient }
@@ -59,13 +84,8 @@ fn least_product(coefficient: i64, var: VarId, state: &State) -> i128
     ensures least { result ≡ least_product state.now (coefficient, var) }
     ensures bounded { IsBounded (10 ^ 25) result }
 {
-    let bound = if coefficient > 0 {
-        state.lower(var)
-    } else {
-        state.upper(var)
-    };
-    match bound {
-        Some(value) => i128::from(coefficient) * i128::from(value),
+    match least_at(coefficient, var, state) {
+        Some(value) => product(coefficient, value),
         None => 0,
     }
 }
