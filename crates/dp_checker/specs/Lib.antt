@@ -2,3 +2,6 @@ pub mod Known
 pub mod Rules
 pub mod Judged
 pub mod Soundness
+pub mod Kept
+pub mod Answers
+pub mod SoundnessLaws

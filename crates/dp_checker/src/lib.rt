@@ -1,6 +1,16 @@
 // The checker of logs, line by line.
 #![tactic(auto)]
 
+mod checker;
+mod conclusion;
+mod facts;
+mod fault;
+mod inference;
+mod literals;
+mod nogood;
 mod refusal;
+mod start;
 
+pub use checker::Checker;
+pub use fault::CheckFault;
 pub use refusal::{StepRefusal, Why};

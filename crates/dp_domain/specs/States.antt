@@ -1,5 +1,5 @@
 -- States: what each variable may still be.
-use Rattle.std.specs.Prelude.{◌≡◌, ℕ, ◌<◌, Bool, true, false, List, [], ◌∷◌, length, get_or, slice_set, ℤ}
+use Rattle.std.specs.Prelude.{◌≡◌, ℕ, ◌<◌, Bool, true, false, not, ◌&&◌, ◌==◌, List, [], ◌∷◌, length, get_or, slice_set, ℤ}
 use Rattle.std.specs.Prelude.{filter}
 use Rattle.std.specs.List.{list_any, list_all}
 use Rattle.dp_base.specs.Lists.{Among}
@@ -47,3 +47,11 @@ LiesIn s d = (x : ℕ) → x < length d → Among (s x) (values d x)
 pub record IsWithin (e d : Domains) : Type 0 where
   pub count : length e ≡ length d
   pub each : (x : ℕ) (v : ℤ) → Among v (values e x) → Among v (values d x)
+
+-- whether the value, as the variable's, fails one of the atoms on it
+abbrev pub fails_one : ℕ → List Atomic → ℤ → Bool
+fails_one x atoms v = list_any (λ a. (a.var == x) && not (meets a v)) atoms
+
+-- the state in which the variable keeps the values that fail one of the atoms on it
+abbrev pub refuted : Domains → ℕ → List Atomic → Domains
+refuted d x atoms = slice_set d x (filter (fails_one x atoms) (values d x))

@@ -1,13 +1,13 @@
 // Finite sets of integers.
 
-ghost use Rattle.std.specs.Prelude.{◌≡◌, ◌≤ℤ◌, ◌↔◌, IfOk, OnOk, IsTrue, not, filter};
+ghost use Rattle.std.specs.Prelude.{◌≡◌, ◌&&◌, ◌==◌, ◌≤ℤ◌, ◌↔◌, IfOk, OnOk, IsTrue, not, filter};
 ghost use Rattle.std.specs.List.{list_all};
 ghost use Rattle.dp_base.specs.Lists.{Among, Each};
 ghost use Rattle.dp_domain.specs.Atoms.{meets};
 ghost use Rattle.dp_domain.specs.Sets.{Collects, IsAscending, IsDomain, IsFollowed, IsSmall, LiesBetween, LiesInOne, greatest, intervals_of, least, with_later};
-ghost use Rattle.dp_domain.specs.States.{is_nil};
+ghost use Rattle.dp_domain.specs.States.{fails_one, is_nil};
 
-use crate::{Atom, Memory};
+use crate::{Atom, Memory, VarId};
 use std::alloc::Global;
 use std::marker::Model;
 
@@ -107,6 +107,13 @@ impl Dom {
         keep(&mut self.values, atom)
     }
 
+    /// Takes out the numbers that, as the variable's value, meet each of the atoms on it.
+    pub fn refute(&mut self, var: VarId, atoms: &[Atom])
+        ensures { self.new ≡ filter (fails_one var atoms.now) self.old }
+    {
+        keep_failing(&mut self.values, var, atoms)
+    }
+
     /// Its maximal intervals in ascending order, each as its first and its last number.
     pub fn intervals(&self, alloc: Global) -> Result<Vec<(i64, i64)>, Memory>
         ensures { IfOk result (λ intervals. intervals.items ≡ intervals_of self.now) }
@@ -193,4 +200,25 @@ fn extend(intervals: &mut Vec<(i64, i64)>, value: i64) -> Result<(), Memory>
         None => intervals.push((value, value))?,
     }
     Ok(())
+}
+
+/// Keeps the values that fail an atom on the variable.
+fn keep_failing(values: &mut Vec<i64>, var: VarId, atoms: &[Atom])
+    ensures { values.new.items ≡ filter (fails_one var atoms.now) values.old.items }
+{
+    values.retain(|value| fails_one(var, atoms, *value));
+}
+
+/// Whether the number, as the variable's value, fails one of the atoms on it.
+fn fails_one(var: VarId, atoms: &[Atom], number: i64) -> bool
+    ensures { result ≡ fails_one var atoms.now number }
+{
+    atoms.iter().any(|atom| fails(var, *atom, number))
+}
+
+/// Whether the atom is on the variable, and the number fails it.
+fn fails(var: VarId, atom: Atom, number: i64) -> bool
+    ensures { result ≡ ((atom.var == var) && not (meets atom number)) }
+{
+    atom.var() == var && !atom.meets(number)
 }

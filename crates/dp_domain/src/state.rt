@@ -3,7 +3,7 @@
 ghost use Rattle.std.specs.Prelude.{◌≡◌, ℕ, ◌^◌, ◌<◌, ◌↔◌, not, length, IfOk, OnOk, OnErr, IsTrue};
 ghost use Rattle.dp_base.specs.Lists.{Among};
 ghost use Rattle.dp_domain.specs.Sets.{IsDomain, greatest, least};
-ghost use Rattle.dp_domain.specs.States.{cut, entails, is_dead, values};
+ghost use Rattle.dp_domain.specs.States.{cut, entails, is_dead, refuted, values};
 
 use crate::{Atom, Dom, Memory, VarId};
 use std::marker::Model;
@@ -108,6 +108,18 @@ impl State {
     {
         let set = &mut self.sets[atom.var().0 as usize];
         Ok(set.exclude(atom))
+    }
+
+    /// Takes out the values of the variable that meet each of the atoms on it. Want of memory leaves
+    /// the state as it was.
+    pub fn refute(&mut self, var: VarId, atoms: &[Atom]) -> Result<(), Memory>
+        requires { var < length self.old }
+        ensures kept { OnOk result (self.new ≡ refuted self.old var atoms.now) }
+        ensures err { OnErr result (self.new ≡ self.old) }
+    {
+        let set = &mut self.sets[var.0 as usize];
+        set.refute(var, atoms);
+        Ok(())
     }
 
     /// The variable's values.

@@ -1,3 +1,5 @@
 pub mod Posed
 pub mod Parts
+pub mod PartLaws
 pub mod Problems
+pub mod ProblemLaws

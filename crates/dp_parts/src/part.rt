@@ -3,7 +3,7 @@
 ghost use Rattle.std.specs.Prelude.{◌≡◌, ◌<◌, Some, IfOk, length, slice_get};
 ghost use Rattle.dp_domain.specs.Faces.{Covers};
 ghost use Rattle.dp_parts.specs.Parts.{ClashesPart, MeetsPart, face_of, label_of};
-ghost use Rattle.dp_parts.proofs.PartLaws.{part_deciding, part_exact, part_lawful, part_sound};
+ghost use Rattle.dp_parts.specs.PartLaws.{part_deciding, part_exact, part_lawful, part_sound};
 
 use dp_domain::{Memory, Rule, State, VarId};
 use dp_rule_linear::LinLe;

@@ -1,0 +1,125 @@
+// Nogoods: the start state, cut hint by hint, becomes empty or entails a hint's whole denial.
+
+ghost use Rattle.std.specs.Prelude.{◌≡◌, ◌||◌, ◌==◌, ◌∷◌, true, false, None, Some, List, length, IfOk, IfSome, OnOk, MatchOption};
+ghost use Rattle.std.specs.List.{list_all};
+ghost use Rattle.dp_base.specs.Lists.{Among, Each};
+ghost use Rattle.dp_domain.specs.Atoms.{Atomic};
+ghost use Rattle.dp_domain.specs.States.{entails, entails_all};
+ghost use Rattle.dp_parts.specs.Problems.{IsProblem, posed};
+ghost use Rattle.dp_checker.specs.Answers.{IfRefused, known_of};
+ghost use Rattle.dp_checker.specs.Judged.{nogood_refusal};
+ghost use Rattle.dp_checker.specs.Kept.{AreBelow, IsKept};
+ghost use Rattle.dp_checker.specs.Known.{cons_some, denials, found, literal_atoms};
+ghost use Rattle.dp_checker.specs.Rules.{proves};
+
+use crate::facts::{Denial, Facts};
+use crate::fault::Fault;
+use crate::literals::{first_undefined, first_unknown, literal_atoms};
+use crate::start::start_state;
+use crate::Why;
+use dp_domain::{Atom, Memory, State, VarId};
+use dp_parts::Problem;
+use indexmap::IndexMap;
+
+/// The denial of a nogood that its hints prove, or the first test that it fails.
+pub fn judge_nogood(
+    problem: &Problem,
+    facts: &Facts,
+    id: u64,
+    atoms: &[i64],
+    hints: &[u64],
+) -> Result<Denial, Fault>
+    requires { IsKept problem.now (known_of facts.now) }
+    ensures accepted { OnOk result (nogood_refusal (posed problem.now) (known_of facts.now) id atoms.now hints.now ≡ None) }
+    ensures denial { IfOk result (λ denial. denial ≡ literal_atoms facts.now.atoms.entries atoms.now) }
+    ensures problem { OnOk result (IsProblem problem.now) }
+    ensures refused { IfRefused result (λ why. nogood_refusal (posed problem.now) (known_of facts.now) id atoms.now hints.now ≡ Some why) }
+{
+    if let Some(literal) = first_undefined(&facts.atoms, atoms) {
+        return Err(Fault::Refused(Why::UnknownAtom(literal)));
+    }
+    if facts.steps.contains_key(&id) {
+        return Err(Fault::Refused(Why::StepTwice));
+    }
+    if let Some(hint) = first_unknown(&facts.steps, hints) {
+        return Err(Fault::Refused(Why::UnknownStep(hint)));
+    }
+    let alloc = *facts.steps.allocator();
+    let denial = literal_atoms(alloc, &facts.atoms, atoms)?;
+    let start = start_state(problem, denial.as_slice())?;
+    if !prove(start, &facts.steps, hints)? {
+        return Err(Fault::Refused(Why::NoClash));
+    }
+    Ok(Denial::new(denial))
+}
+
+/// Whether the hints prove that nothing in the start state is left.
+fn prove(start: State, steps: &IndexMap<u64, Denial>, hints: &[u64]) -> Result<bool, Memory>
+    requires { Each (λ step. AreBelow (length start) step.1) steps.now.entries }
+    ensures { IfOk result (λ proved. proved ≡ proves start (denials steps.now.entries hints.now)) }
+{
+    let mut state = start;
+    for hint in hints {
+        if take_step(&mut state, steps, *hint)? {
+            return Ok(true);
+        }
+    }
+    Ok(state.dead())
+}
+
+/// Takes the hint of this number, if there is such a step, and answers whether it proves the nogood.
+fn take_step(state: &mut State, steps: &IndexMap<u64, Denial>, hint: u64) -> Result<bool, Memory>
+    requires { Each (λ step. AreBelow (length state.old) step.1) steps.now.entries }
+    ensures count { length state.new ≡ length state.old }
+    ensures turn { IfOk result (λ proved. (hints : List (List Atomic)) → proves state.old (cons_some (found hint steps.now.entries) hints) ≡ (proved || proves state.new hints)) }
+{
+    match steps.get(&hint) {
+        Some(denial) => take_hint(state, denial.as_slice()),
+        None => Ok(false),
+    }
+}
+
+/// Cuts the state by the hint, or answers that it proves the nogood.
+fn take_hint(state: &mut State, denial: &[Atom]) -> Result<bool, Memory>
+    requires { AreBelow (length state.old) denial.now }
+    ensures count { length state.new ≡ length state.old }
+    ensures turn { IfOk result (λ proved. (hints : List (List Atomic)) → proves state.old (denial.now ∷ hints) ≡ (proved || proves state.new hints)) }
+{
+    if state.dead() {
+        return Ok(true);
+    }
+    let Some(open) = first_open(state, denial) else {
+        return Ok(true);
+    };
+    if rests_on(state, denial, open.var()) {
+        state.refute(open.var(), denial)?;
+    }
+    Ok(false)
+}
+
+/// The first atom that the state does not entail.
+fn first_open(state: &State, denial: &[Atom]) -> Option<Atom>
+    requires { AreBelow (length state.now) denial.now }
+    ensures none { MatchOption result (entails_all state.now denial.now ≡ true) (λ _. entails_all state.now denial.now ≡ false) }
+    ensures open { IfSome result (λ a. Among a denial.now × (entails state.now a ≡ false)) }
+{
+    for atom in denial {
+        if !state.entails(*atom) {
+            return Some(*atom);
+        }
+    }
+    None
+}
+
+/// Whether the state entails each of the atoms on other variables.
+fn rests_on(state: &State, denial: &[Atom], var: VarId) -> bool
+    requires { AreBelow (length state.now) denial.now }
+    ensures { result ≡ list_all (λ a. (a.var == var) || entails state.now a) denial.now }
+{
+    for atom in denial {
+        if atom.var() != var && !state.entails(*atom) {
+            return false;
+        }
+    }
+    true
+}

@@ -1,0 +1,24 @@
+-- The laws of parts, kind by kind.
+use Rattle.std.specs.Prelude.{◌≡◌, ℕ, ◌↔◌, true, false, ℤ}
+use Rattle.dp_domain.specs.Faces.{Covers, Fixes, IsLawful}
+use Rattle.dp_domain.specs.States.{Domains, LiesIn, is_dead}
+use Rattle.dp_rule_linear.specs.AtMostLaws.{at_most_deciding, at_most_exact, at_most_lawful, at_most_sound}
+use Rattle.dp_parts.specs.Parts.{ClashesPart, MeetsPart, face_of}
+use Rattle.dp_parts.specs.declared.part.Part.{Part}
+use Rattle.dp_parts.specs.declared.part.Part.TheVariants.{LinLe}
+
+-- the test is true exactly where the part clashes
+pub part_exact : (q : Part) (d : Domains) → (face_of q).test d ≡ true ↔ ClashesPart q d
+part_exact (LinLe q) d = at_most_exact q d
+
+-- the test has the laws of every test
+pub part_lawful : (q : Part) → IsLawful (face_of q)
+part_lawful (LinLe q) = at_most_lawful q
+
+-- where an assignment within the state meets the part, it does not clash
+pub part_sound : (q : Part) (d : Domains) (s : ℕ → ℤ) → Covers (face_of q).scope d → LiesIn s d → MeetsPart q s → (face_of q).test d ≡ false
+part_sound (LinLe q) d s covers lies meets = at_most_sound q d s covers lies meets
+
+-- where each variable has one value, it clashes exactly where that assignment fails it
+pub part_deciding : (q : Part) (d : Domains) (s : ℕ → ℤ) → is_dead d ≡ false → Fixes (face_of q).scope s d → ((face_of q).test d ≡ true) ↔ (MeetsPart q s → ⊥)
+part_deciding (LinLe q) d s alive fixes = at_most_deciding q d s alive fixes
