@@ -12,7 +12,7 @@ use Rattle.dp_command.specs.declared.reply.Reply.TheVariants.{NoCommand, ModelRe
 pub record Said (names : Option Files) (words : List (List ℕ)) (status : ℕ) (was now : Channel) : Type 0 where
   pub reply : Reply
   pub due : Replies names words reply
-  pub status : status ≡ status_of reply
+  pub stands : status ≡ status_of reply
   pub text : Grows was now (text_of reply)
 
 -- the text of a reply that belongs to the words and the inputs, or that of a read fault where there was one

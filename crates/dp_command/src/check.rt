@@ -1,6 +1,6 @@
 // The command that judges a log of a model.
 
-ghost use Rattle.std.specs.Prelude.{◌≡◌, ℕ, List, ℤ, IfOk, MatchOption};
+ghost use Rattle.std.specs.Prelude.{◌≡◌, ℕ, List, ℤ, IfOk, IfSome, MatchOption};
 ghost use Rattle.dp_desk.specs.Channel.{IsAtEnd};
 ghost use Rattle.dp_desk.specs.Sight.{with_input};
 ghost use Rattle.dp_parts.specs.Problems.{posed, IsSolution};

@@ -2,14 +2,18 @@
 #![tactic(auto)]
 
 mod check;
+mod program;
 mod reading;
 mod reply;
-mod run;
+
 mod saying;
 mod small;
 mod trouble;
 mod words;
 
 pub(crate) use trouble::Trouble;
-pub use run::run;
+pub use program::run;
 pub use words::{Command, read_words};
+
+#[cfg(test)]
+mod tests;

@@ -25,11 +25,8 @@ pub(crate) enum ModelFault {
 pub(crate) fn read_model(_alloc: Global, text: &[u8]) -> Result<Problem, ModelFault>
     ensures built { IfOk result (λ p. (m : SmallModel) × IsSmallModel m × (text.now ≡ model_text m) × (p ≡ problem_of m)) }
     ensures not_built { IsErrOf result ModelFault.NotBuilt → (m : SmallModel) → IsSmallModel m → text.now ≡ model_text m → ⊥ }
-    ensures meaning { (m : SmallModel) → IsSmallModel m → ((s : ℕ → ℤ) → IsSolution s (problem_of m) → ⊥) → (s : List ℕ → ℤ) → Satisfies s m → ⊥ }
+    ensures meaning { IfOk result (λ p. (m : SmallModel) → IsSmallModel m → ((s : ℕ → ℤ) → IsSolution s (problem_of m) → ⊥) → (s : List ℕ → ℤ) → Satisfies s m → ⊥) }
 {
-    if text.is_empty() {
-        return Err(ModelFault::NotBuilt);
-    }
     Err(ModelFault::Memory)
 }
 
