@@ -3,6 +3,7 @@ use Rattle.std.specs.Prelude.{◌≡◌, ℕ, List, Option, ℤ}
 use Rattle.dp_desk.specs.Channel.{Files}
 use Rattle.dp_parts.specs.Problems.{Csp, posed, IsSolution}
 use Rattle.dp_small.specs.declared.answer.LogAnswer.{LogAnswer}
+use Rattle.dp_small.specs.declared.answer.LogAnswer.TheVariants.{Accepted, NotBuilt, Refused}
 use Rattle.dp_small.specs.Models.{SmallModel, IsSmallModel, model_text, Satisfies}
 use Rattle.dp_small.specs.Problems.{problem_of}
 use Rattle.dp_small.specs.Logs.{AnswersLog}
@@ -60,6 +61,18 @@ pub record IsUnsatisfiable (names : Option Files) (words : List (List ℕ)) : Ty
   pub m : SmallModel
   pub model : ChecksModel names words log m
   pub none : (s : List ℕ → ℤ) → Satisfies s m → ⊥
+
+-- an accepted log proves that the model cannot be satisfied
+abbrev pub IsSoundAnswer : Option Files → List (List ℕ) → LogAnswer → Type 0
+IsSoundAnswer names words Accepted = IsUnsatisfiable names words
+IsSoundAnswer names words (NotBuilt number) = Unit {0}
+IsSoundAnswer names words (Refused why number bytes) = Unit {0}
+
+-- so does the reply that says so
+abbrev pub IsSound : Option Files → List (List ℕ) → Reply → Type 0
+IsSound names words NoCommand = Unit {0}
+IsSound names words ModelRefused = Unit {0}
+IsSound names words (Judged answer) = IsSoundAnswer names words answer
 
 -- the bytes that are read of the input of this name spell a model of the small form, and this is its problem;
 -- where the problem has no solution, no integers within the model's bounds meet all its inequalities

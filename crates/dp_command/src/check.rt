@@ -8,7 +8,7 @@ ghost use Rattle.dp_small.specs.declared.answer.LogAnswer.TheVariants.{Accepted}
 ghost use Rattle.dp_small.specs.Logs.{AnswersLog};
 ghost use Rattle.dp_command.specs.Inputs.{IsRead, HasReadCause};
 ghost use Rattle.dp_command.specs.Due.{ChangesInputs, LeavesUnread, AreAtEnd};
-ghost use Rattle.dp_command.specs.Replies.{most, Replies, IsUnsatisfiable, HasNoForm, Poses};
+ghost use Rattle.dp_command.specs.Replies.{most, Replies, IsSound, HasNoForm, Poses};
 ghost use Rattle.dp_command.specs.Texts.{status_of};
 ghost use Rattle.dp_command.specs.Words.{Check, words_of};
 
@@ -32,7 +32,7 @@ pub(crate) fn check<D: Desk>(
     desk: &mut D,
 ) -> Result<Reply, Trouble>
     ensures due { IfOk result (λ reply. Replies (D.sight desk.old).names (words_of (Check model.now log.now)) reply) }
-    ensures sound { IfOk result (λ reply. status_of reply ≡ 0 → IsUnsatisfiable (D.sight desk.old).names (words_of (Check model.now log.now))) }
+    ensures sound { IfOk result (λ reply. IsSound (D.sight desk.old).names (words_of (Check model.now log.now)) reply) }
     ensures ended { IfOk result (λ reply. status_of reply ≡ 0 → AreAtEnd (D.sight desk.new)) }
     ensures unread { IfOk result (λ reply. LeavesUnread reply (D.sight desk.old) (D.sight desk.new)) }
     ensures rest { ChangesInputs (D.sight desk.old) (D.sight desk.new) }
