@@ -23,8 +23,8 @@ one_meets d x v a here on e =
 meets_one : (d : Domains) (x : ℕ) (v : ℤ) (a : Atomic) → a.var ≡ x → meets a v ≡ true → entails (cut d («is» x v)) a ≡ true
 meets_one d x v a on m =
     entails-from (cut d («is» x v)) a (λ w h.
-        let same : w ≡ v = (meets-eq x v w).0 (Among-cut_meets d («is» x v) w (subst (λ (y : ℕ). Among w (values (cut d («is» x v)) y)) on h)) in
-        subst (λ (u : ℤ). meets a u ≡ true) (sym same) m)
+    let same : w ≡ v = (meets-eq x v w).0 (Among-cut_meets d («is» x v) w (subst (λ (y : ℕ). Among w (values (cut d («is» x v)) y)) on h)) in
+    subst (λ (u : ℤ). meets a u ≡ true) (sym same) m)
 
 filter-whole_list : (p : ℤ → Bool) (xs : List ℤ) → ((v : ℤ) → Among v xs → p v ≡ true) → filter p xs ≡ xs
 filter-whole_list p xs f = filter-whole p xs (list_all-from p xs f)
@@ -46,43 +46,43 @@ same_states d e count f = same_lists d e count (λ k vs h.
 module _ (d : Domains) (denial : List Atomic) where
   -- a variable that is not an open atom's loses nothing
   kept_by_open : (a : Atomic) → Among a denial → entails d a ≡ false → (x : ℕ) (v : ℤ) → (a.var ≡ x → ⊥) → not (entails_all (cut d («is» x v)) denial) ≡ true
-  kept_by_open a here open x v apart =
-      not_from_false (entails_all (cut d («is» x v)) denial) (list_all-not (entails (cut d («is» x v))) denial a here (entails-is_other d x v a apart ∙ open))
+  kept_by_open a here lacks x v apart =
+      not_from_false (entails_all (cut d («is» x v)) denial) (list_all-not (entails (cut d («is» x v))) denial a here (entails-is_other d x v a apart ∙ lacks))
 
   -- with open atoms on two variables a hint takes nothing away
   pub cut_hint-passed : (a : Atomic) → Among a denial → entails d a ≡ false
       → list_all (λ b. eqb b.var a.var || entails d b) denial ≡ false → cut_hint d denial ≡ d
-  cut_hint-passed a here open rests =
+  cut_hint-passed a here lacks rests =
       let other : (b : Atomic) × Among b denial × ((eqb b.var a.var || entails d b) ≡ false) = list_all-fails (λ b. eqb b.var a.var || entails d b) denial rests in
       let parts : (eqb other.0.var a.var ≡ false) × (entails d other.0 ≡ false) = or_parts (eqb other.0.var a.var) (entails d other.0) other.2 in
       same_states (cut_hint d denial) d (length-keep_where (λ x v. not (entails_all (cut d («is» x v)) denial)) d) (λ x lt.
-          values-keep_where (λ y v. not (entails_all (cut d («is» y v)) denial)) d x
-          ∙ filter-whole_list (λ v. not (entails_all (cut d («is» x v)) denial)) (values d x) (λ v h.
-              elim (cases_eq a.var x) [
-                inl e ↦ kept_by_open other.0 other.1 parts.1 x v (λ k. both_ways (eqb other.0.var a.var) parts.0 (eq-eqb other.0.var a.var (k ∙ sym e)))
-              | inr n ↦ kept_by_open a here open x v n
-              ]))
+      values-keep_where (λ y v. not (entails_all (cut d («is» y v)) denial)) d x
+      ∙ filter-whole_list (λ v. not (entails_all (cut d («is» x v)) denial)) (values d x) (λ v h.
+      elim (cases_eq a.var x) [
+        | inl e ↦ kept_by_open other.0 other.1 parts.1 x v (λ k. both_ways (eqb other.0.var a.var) parts.0 (eq-eqb other.0.var a.var (k ∙ sym e)))
+        | inr n ↦ kept_by_open a here lacks x v n
+      ]))
 
   fails_none : (x : ℕ) (v : ℤ) → Among v (values d x) → entails_all (cut d («is» x v)) denial ≡ true → fails_one x denial v ≡ false
   fails_none x v h e = list_any-not (λ a. eqb a.var x && not (meets a v)) denial (λ a here.
       false_from_ne_true (eqb a.var x && not (meets a v)) (λ both.
-          let so : (eqb a.var x ≡ true) × (not (meets a v) ≡ true) = and_parts (eqb a.var x) (not (meets a v)) both in
-          let m : meets a v ≡ true = one_meets d x v a h (eqb-true a.var x so.0) (list_all-at (entails (cut d («is» x v))) denial a e here) in
-          both_ways (not (meets a v)) (not_from_true (meets a v) m) so.1))
+      let so : (eqb a.var x ≡ true) × (not (meets a v) ≡ true) = and_parts (eqb a.var x) (not (meets a v)) both in
+      let m : meets a v ≡ true = one_meets d x v a h (eqb-true a.var x so.0) (list_all-at (entails (cut d («is» x v))) denial a e here) in
+      both_ways (not (meets a v)) (not_from_true (meets a v) m) so.1))
 
   fails_some : (x : ℕ) (v : ℤ) → list_all (λ b. eqb b.var x || entails d b) denial ≡ true → entails_all (cut d («is» x v)) denial ≡ false → fails_one x denial v ≡ true
   fails_some x v rests e =
       let found : (a : Atomic) × Among a denial × (entails (cut d («is» x v)) a ≡ false) = list_all-fails (entails (cut d («is» x v))) denial e in
       let a : Atomic = found.0 in
       elim (cases_eq a.var x) [
-        inl on ↦
-          let m : meets a v ≡ false = false_from_ne_true (meets a v) (λ t. both_ways (entails (cut d («is» x v)) a) found.2 (meets_one d x v a on t)) in
-          list_any-at (λ b. eqb b.var x && not (meets b v)) denial a found.1
-              (and_from (eqb a.var x) (not (meets a v)) (eq-eqb a.var x on) (not_from_false (meets a v) m))
-      | inr off ↦ absurd (elim (or_cases (eqb a.var x) (entails d a) (list_all-at (λ b. eqb b.var x || entails d b) denial a rests found.1)) [
-            inl on ↦ off (eqb-true a.var x on)
+        | inl on ↦
+            let m : meets a v ≡ false = false_from_ne_true (meets a v) (λ t. both_ways (entails (cut d («is» x v)) a) found.2 (meets_one d x v a on t)) in
+            list_any-at (λ b. eqb b.var x && not (meets b v)) denial a found.1
+            (and_from (eqb a.var x) (not (meets a v)) (eq-eqb a.var x on) (not_from_false (meets a v) m))
+        | inr off ↦ absurd (elim (or_cases (eqb a.var x) (entails d a) (list_all-at (λ b. eqb b.var x || entails d b) denial a rests found.1)) [
+          | inl on ↦ off (eqb-true a.var x on)
           | inr t ↦ both_ways (entails d a) (sym (entails-is_other d x v a off) ∙ found.2) t
-          ])
+        ])
       ]
 
   stays_where_fails : (x : ℕ) (v : ℤ) → Among v (values d x) → list_all (λ b. eqb b.var x || entails d b) denial ≡ true
@@ -93,16 +93,16 @@ module _ (d : Domains) (denial : List Atomic) where
   -- with open atoms on one variable a hint takes away the values that meet all of its atoms there
   pub cut_hint-refuted : (a : Atomic) → Among a denial → entails d a ≡ false → a.var < length d
       → list_all (λ b. eqb b.var a.var || entails d b) denial ≡ true → cut_hint d denial ≡ refuted d a.var denial
-  cut_hint-refuted a here open within rests =
+  cut_hint-refuted a here lacks within rests =
       let keep : ℕ → ℤ → Bool = λ x v. not (entails_all (cut d («is» x v)) denial) in
       let left : List ℤ = filter (fails_one a.var denial) (values d a.var) in
       same_states (cut_hint d denial) (refuted d a.var denial) (length-keep_where keep d ∙ sym (length-set d a.var left)) (λ x lt.
-          values-keep_where keep d x ∙ elim (cases_eq x a.var) [
-            inl e ↦
-              subst (λ (y : ℕ). filter (keep y) (values d y) ≡ values (refuted d a.var denial) y) (sym e)
-                  (filter-agree (keep a.var) (fails_one a.var denial) (values d a.var) (λ v h. stays_where_fails a.var v h rests (entails_all (cut d («is» a.var v)) denial) refl)
-                  ∙ sym (get_or-set_same d a.var left [] within))
-          | inr n ↦
-              filter-whole_list (keep x) (values d x) (λ v h. kept_by_open a here open x v (λ k. n (sym k)))
-              ∙ sym (get_or-set_other d a.var x left [] n)
-          ])
+      values-keep_where keep d x ∙ elim (cases_eq x a.var) [
+        | inl e ↦
+            subst (λ (y : ℕ). filter (keep y) (values d y) ≡ values (refuted d a.var denial) y) (sym e)
+            (filter-agree (keep a.var) (fails_one a.var denial) (values d a.var) (λ v h. stays_where_fails a.var v h rests (entails_all (cut d («is» a.var v)) denial) refl)
+            ∙ sym (get_or-set_same d a.var left [] within))
+        | inr n ↦
+            filter-whole_list (keep x) (values d x) (λ v h. kept_by_open a here lacks x v (λ k. n (sym k)))
+            ∙ sym (get_or-set_other d a.var x left [] n)
+      ])

@@ -1,1 +1,4 @@
 pub mod Hints
+pub mod Below
+pub mod Loops
+pub mod Right

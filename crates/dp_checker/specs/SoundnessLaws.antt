@@ -22,10 +22,10 @@ use Rattle.dp_parts.specs.Posed.{IsSoundPart, IsSoundlyPosed, Labelled, Passes, 
 use Rattle.dp_base.specs.Names.{named}
 use Rattle.dp_checker.specs.declared.refusal.StepRefusal.{StepRefusal}
 use Rattle.dp_checker.specs.declared.refusal.Why.{Why}
-use Rattle.dp_checker.specs.declared.refusal.Why.TheVariants.{AfterConclusion, NoClash, NotConcluded, NotImplied}
-use Rattle.dp_checker.specs.Judged.{after, against, concluded, conclusion_refusal, first_refusal, grounds, inference_denial, inference_refusal, initial_domain, judge, judge_all, line_refusal, nogood_refusal, or_else, outcome, parts_of, unless, with_atom, with_step}
+use Rattle.dp_checker.specs.declared.refusal.Why.TheVariants.{AfterConclusion, NoClash, NoGoal, NotConcluded, NotImplied, StepTwice, UnknownAtom, UnknownConstraint, UnknownStep, WrongBound, WrongLabel}
+use Rattle.dp_checker.specs.Judged.{after, against, concluded, conclusion_refusal, first_refusal, grounds, has_goal, inference_denial, inference_refusal, initial_domain, is_bound, is_constraint, is_fitting, judge, judge_all, line_refusal, naming, nogood_refusal, or_else, outcome, parts_of, unless, with_atom, with_last, with_step}
 use Rattle.dp_checker.specs.Kept.{DeniesBelow, IsBacked, MeetsBelow}
-use Rattle.dp_checker.specs.Known.{Known, cons_some, denials, found, literal_atom, literal_atoms, nothing}
+use Rattle.dp_checker.specs.Known.{Known, cons_some, denials, first_undefined, first_unknown, found, literal_atom, literal_atoms, nothing}
 use Rattle.dp_checker.specs.Rules.{concludes, cut_hint, implies, «is», is_labelled, keep_where, proves}
 use Rattle.dp_checker.specs.Soundness.{Denies, HoldsOf, IsSupported, Meets}
 
@@ -33,9 +33,9 @@ use Rattle.dp_checker.specs.Soundness.{Denies, HoldsOf, IsSupported, Meets}
 
 lies_cut : (d : Domains) (s : ℕ → ℤ) (a : Atomic) → LiesIn s d → MeetsBelow (length d) s a → LiesIn s (cut d a)
 lies_cut d s a lies m = elim (cases_lt a.var (length d)) [
-    inl k ↦ LiesIn-cut d s a lies (m k)
+  | inl k ↦ LiesIn-cut d s a lies (m k)
   | inr k ↦ subst (λ (e : Domains). LiesIn s e) (sym (cut-past d a k)) lies
-  ]
+]
 
 -- an assignment that meets the atoms lies in the state cut by them
 pub lies_cut_all : (d : Domains) (s : ℕ → ℤ) (atoms : List Atomic) → LiesIn s d → Each (MeetsBelow (length d) s) atoms → LiesIn s (cut_all d atoms)
@@ -72,12 +72,12 @@ no_clash : (n : ℕ) (s : ℕ → ℤ) (start : Domains) (parts : List Labelled)
     → Each (IsSoundPart n) parts → Each (λ part. Passes s part.face) parts → implies start parts label ≡ true → ⊥
 no_clash n s start parts label count lies sound passes e =
     elim (or_cases (is_dead start) (list_any (λ part. is_labelled label part && part.face.test start) parts) e) [
-      inl dead ↦ both_ways (is_dead start) (LiesIn-alive start s lies) dead
-    | inr some ↦
-        let found : (part : Labelled) × Among part parts × ((is_labelled label part && part.face.test start) ≡ true) = list_any-some (λ part. is_labelled label part && part.face.test start) parts some in
-        let part : Labelled = found.0 in
-        let covers : Covers part.face.scope start = subst (λ (m : ℕ). Each (λ x. x < m) part.face.scope) (sym count) (Each-among (IsSoundPart n) parts sound part found.1).covered in
-        both_ways (part.face.test start) (Each-among (λ q. Passes s q.face) parts passes part found.1 start covers lies) (and_parts (is_labelled label part) (part.face.test start) found.2).1
+      | inl dead ↦ both_ways (is_dead start) (LiesIn-alive start s lies) dead
+      | inr some ↦
+          let found : (part : Labelled) × Among part parts × ((is_labelled label part && part.face.test start) ≡ true) = list_any-some (λ part. is_labelled label part && part.face.test start) parts some in
+          let part : Labelled = found.0 in
+          let covers : Covers part.face.scope start = subst (λ (m : ℕ). Each (λ x. x < m) part.face.scope) (sym count) (Each-among (IsSoundPart n) parts sound part found.1).covered in
+          both_ways (part.face.test start) (Each-among (λ q. Passes s q.face) parts passes part found.1 start covers lies) (and_parts (is_labelled label part) (part.face.test start) found.2).1
     ]
 
 -- an inference that holds denies its atoms
@@ -85,9 +85,9 @@ pub inference_denies : (p : Posed) → IsSoundlyPosed p → (constraint : Option
     → implies (cut_all p.initial denial) (grounds p constraint label) label ≡ true → DeniesBelow p denial
 inference_denies p sound constraint label denial e s solves met =
     no_clash (length p.initial) s (cut_all p.initial denial) (grounds p constraint label) label (length-cut_all p.initial denial)
-        (lies_cut_all p.initial s denial solves.within met)
-        (grounds_each (IsSoundPart (length p.initial)) p constraint label sound)
-        (grounds_each (λ part. Passes s part.face) p constraint label solves.passes) e
+    (lies_cut_all p.initial s denial solves.within met)
+    (grounds_each (IsSoundPart (length p.initial)) p constraint label sound)
+    (grounds_each (λ part. Passes s part.face) p constraint label solves.passes) e
 
 -- ---- nogoods
 
@@ -108,22 +108,22 @@ lies_hint d s denial lies fails x lt =
     let here : x < length d = subst (λ (n : ℕ). x < n) (length-keep_where keep d) lt in
     let fixed : LiesIn s (cut d («is» x (s x))) = lies_cut d s («is» x (s x)) lies (λ k. (meets-eq x (s x) (s x)).1 refl) in
     let stays : entails_all (cut d («is» x (s x))) denial ≡ false =
-        false_from_ne_true (entails_all (cut d («is» x (s x))) denial) (λ e. fails (subst (λ (n : ℕ). Each (MeetsBelow n s) denial) (length-cut d («is» x (s x))) (met_where_entailed (cut d («is» x (s x))) s denial fixed e))) in
+    false_from_ne_true (entails_all (cut d («is» x (s x))) denial) (λ e. fails (subst (λ (n : ℕ). Each (MeetsBelow n s) denial) (length-cut d («is» x (s x))) (met_where_entailed (cut d («is» x (s x))) s denial fixed e))) in
     subst (λ (vs : List ℤ). Among (s x) vs) (sym (values-keep_where keep d x))
-        (Among-filter_all (keep x) (values d x) (s x) (lies x here) (not_from_false (entails_all (cut d («is» x (s x))) denial) stays))
+    (Among-filter_all (keep x) (values d x) (s x) (lies x here) (not_from_false (entails_all (cut d («is» x (s x))) denial) stays))
 
 no_proof : (n : ℕ) (s : ℕ → ℤ) (hints : List (List Atomic)) (d : Domains) → length d ≡ n → LiesIn s d
     → Each (λ denial. Each (MeetsBelow n s) denial → ⊥) hints → proves d hints ≡ true → ⊥
 no_proof n s [] d count lies denied e = both_ways (is_dead d) (LiesIn-alive d s lies) e
 no_proof n s (denial ∷ hints) d count lies denied e =
     elim (or_cases (is_dead d || entails_all d denial) (proves (cut_hint d denial) hints) e) [
-      inl now ↦ elim (or_cases (is_dead d) (entails_all d denial) now) [
-          inl dead ↦ both_ways (is_dead d) (LiesIn-alive d s lies) dead
+      | inl now ↦ elim (or_cases (is_dead d) (entails_all d denial) now) [
+        | inl dead ↦ both_ways (is_dead d) (LiesIn-alive d s lies) dead
         | inr entailed ↦ denied.0 (subst (λ (m : ℕ). Each (MeetsBelow m s) denial) count (met_where_entailed d s denial lies entailed))
-        ]
-    | inr later ↦
-        no_proof n s hints (cut_hint d denial) (length-keep_where (λ y v. not (entails_all (cut d («is» y v)) denial)) d ∙ count)
-            (lies_hint d s denial lies (λ m. denied.0 (subst (λ (k : ℕ). Each (MeetsBelow k s) denial) count m))) denied.1 later
+      ]
+      | inr later ↦
+          no_proof n s hints (cut_hint d denial) (length-keep_where (λ y v. not (entails_all (cut d («is» y v)) denial)) d ∙ count)
+          (lies_hint d s denial lies (λ m. denied.0 (subst (λ (k : ℕ). Each (MeetsBelow k s) denial) count m))) denied.1 later
     ]
 
 cons_each : {A : Type 0} (P : A → Type 0) (o : Option A) (xs : List A) → IfSome o P → Each P xs → Each P (cons_some o xs)
@@ -149,8 +149,8 @@ pub nogood_denies : (p : Posed) (steps : List (ℕ × List Atomic)) (hints : Lis
     → proves (cut_all p.initial denial) (denials steps hints) ≡ true → DeniesBelow p denial
 nogood_denies p steps hints denial denied e s solves met =
     no_proof (length p.initial) s (denials steps hints) (cut_all p.initial denial) (length-cut_all p.initial denial)
-        (lies_cut_all p.initial s denial solves.within met)
-        (denials_each (λ atoms. Each (MeetsBelow (length p.initial) s) atoms → ⊥) steps hints (each_at p s solves steps denied)) e
+    (lies_cut_all p.initial s denial solves.within met)
+    (denials_each (λ atoms. Each (MeetsBelow (length p.initial) s) atoms → ⊥) steps hints (each_at p s solves steps denied)) e
   where
     each_at : (p : Posed) (s : ℕ → ℤ) → Solves s p → (steps : List (ℕ × List Atomic)) → Each (λ step. DeniesBelow p step.1) steps → Each (λ step. Each (MeetsBelow (length p.initial) s) step.1 → ⊥) steps
     each_at p s solves [] d = tt
@@ -165,20 +165,20 @@ conclusion_denies p steps denial denied e s solves met =
     let start : Domains = cut_all p.initial denial in
     let lies : LiesIn s start = lies_cut_all p.initial s denial solves.within met in
     elim (or_cases (is_dead start) (list_any (λ step. entails_all start step.1) steps) e) [
-      inl dead ↦ both_ways (is_dead start) (LiesIn-alive start s lies) dead
-    | inr some ↦
-        let found : (step : ℕ × List Atomic) × Among step steps × (entails_all start step.1 ≡ true) = list_any-some (λ step. entails_all start step.1) steps some in
-        Each-among (λ step. DeniesBelow p step.1) steps denied found.0 found.1 s solves
-            (subst (λ (n : ℕ). Each (MeetsBelow n s) found.0.1) (length-cut_all p.initial denial) (met_where_entailed start s found.0.1 lies found.2))
+      | inl dead ↦ both_ways (is_dead start) (LiesIn-alive start s lies) dead
+      | inr some ↦
+          let found : (step : ℕ × List Atomic) × Among step steps × (entails_all start step.1 ≡ true) = list_any-some (λ step. entails_all start step.1) steps some in
+          Each-among (λ step. DeniesBelow p step.1) steps denied found.0 found.1 s solves
+          (subst (λ (n : ℕ). Each (MeetsBelow n s) found.0.1) (length-cut_all p.initial denial) (met_where_entailed start s found.0.1 lies found.2))
     ]
 
 bound_holds : (p : Posed) (steps : List (ℕ × List Atomic)) (o : Option Atomic) → Each (λ step. DeniesBelow p step.1) steps
     → concludes (cut_all p.initial (map negated (cons_some o []))) steps ≡ true → IfSome (option_map NoBetter o) (HoldsOf p)
 bound_holds p steps None denied e = tt
 bound_holds p steps (Some a) denied e = λ s solves. elim (cases_Bool (meets a (s a.var))) [
-    inl yes ↦ yes
+  | inl met ↦ met
   | inr fails ↦ absurd (conclusion_denies p steps (negated a ∷ []) denied e s solves (λ k. meets-from_not a (s a.var) fails, tt))
-  ]
+]
 
 -- ---- lines
 
@@ -218,21 +218,24 @@ backed_claim p known (Bound literal) kept e = record {
   steps = kept.steps;
   conclusion = bound_holds p known.steps (literal_atom known.atoms literal) kept.steps
       (holds_where_passed (concludes (cut_all p.initial (against known.atoms (Some literal))) known.steps) NotConcluded
-          (second_passes _ _ (second_passes _ _ (second_passes _ _ e))));
+      (second_passes (unless (list_all (is_bound p.goal) (literal_atoms known.atoms (literal ∷ []))) WrongBound) _
+      (second_passes (unless (has_goal p.goal) NoGoal) _ (second_passes (naming UnknownAtom (first_undefined known.atoms (literal ∷ []))) _ e))));
 }
 
 backed_line : (p : Posed) → IsSoundlyPosed p → (known : Known) → IsBacked p known → (line : Line) → line_refusal p known line ≡ None → IsBacked p (after p known line)
 backed_line p sound known kept (Atom id name op value) e = backed_atom p known id op value (named p.names name) kept
 backed_line p sound known kept (Inference id premises consequent constraint label) e =
     backed_step p known id (inference_denial known.atoms premises consequent) kept
-        (inference_denies p sound constraint label (inference_denial known.atoms premises consequent)
-            (holds_where_passed (implies (cut_all p.initial (inference_denial known.atoms premises consequent)) (grounds p constraint label) label) NotImplied
-                (second_passes _ _ (second_passes _ _ (second_passes _ _ (second_passes _ _ e))))))
+    (inference_denies p sound constraint label (inference_denial known.atoms premises consequent)
+    (holds_where_passed (implies (cut_all p.initial (inference_denial known.atoms premises consequent)) (grounds p constraint label) label) NotImplied
+    (second_passes (unless (is_fitting p constraint label) WrongLabel) _ (second_passes (unless (is_constraint p constraint) UnknownConstraint) _
+    (second_passes (unless (is_none (found id known.steps)) StepTwice) _ (second_passes (naming UnknownAtom (first_undefined known.atoms (with_last premises consequent))) _ e))))))
 backed_line p sound known kept (Nogood id atoms hints) e =
     backed_step p known id (literal_atoms known.atoms atoms) kept
-        (nogood_denies p known.steps hints (literal_atoms known.atoms atoms) kept.steps
-            (holds_where_passed (proves (cut_all p.initial (literal_atoms known.atoms atoms)) (denials known.steps hints)) NoClash
-                (second_passes _ _ (second_passes _ _ (second_passes _ _ e)))))
+    (nogood_denies p known.steps hints (literal_atoms known.atoms atoms) kept.steps
+    (holds_where_passed (proves (cut_all p.initial (literal_atoms known.atoms atoms)) (denials known.steps hints)) NoClash
+    (second_passes (naming UnknownStep (first_unknown known.steps hints)) _
+    (second_passes (unless (is_none (found id known.steps)) StepTwice) _ (second_passes (naming UnknownAtom (first_undefined known.atoms atoms)) _ e)))))
 backed_line p sound known kept (Delete id) e = kept
 backed_line p sound known kept (Conclude claim) e = backed_claim p known claim kept e
 
@@ -262,14 +265,14 @@ backed_lines : (p : Posed) → IsSoundlyPosed p → (lines : List (ℕ × Line))
 backed_lines p sound [] known next kept e = subst (λ (k : Known). IsBacked p k) (known_same (Ok known) known next refl e) kept
 backed_lines p sound (line ∷ lines) known next kept e =
     let so : (first_refusal p known line.1 ≡ None) × (judge_all p (Ok (after p known line.1)) lines ≡ Ok next) =
-        passed p line.0 known next (after p known line.1) lines (first_refusal p known line.1) e in
+    passed p line.0 known next (after p known line.1) lines (first_refusal p known line.1) e in
     backed_lines p sound lines (after p known line.1) next (backed_after p sound known kept line.1 so.0) so.1
 
 supported : (p : Posed) (known : Known) → IsBacked p known → IsSupported p known
 supported p known kept = record {
   steps = Each-from_among (λ step. Denies p step.1) known.steps (λ step k s solves met.
       Each-among (λ q. DeniesBelow p q.1) known.steps kept.steps step k s solves
-          (Each-from_among (MeetsBelow (length p.initial) s) step.1 (λ a here lt. Each-among (Meets s) step.1 met a here)));
+      (Each-from_among (MeetsBelow (length p.initial) s) step.1 (λ a here lt. Each-among (Meets s) step.1 met a here)));
   conclusion = kept.conclusion;
 }
 

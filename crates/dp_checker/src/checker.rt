@@ -6,7 +6,7 @@ ghost use Rattle.dp_domain.specs.Atoms.{IsNameable};
 ghost use Rattle.dp_lines.specs.Allowed.{IsAllowed};
 ghost use Rattle.dp_parts.specs.Problems.{IsProblem, posed};
 ghost use Rattle.dp_checker.specs.Answers.{IfMemory, IfRefused, Tells, UnlessMemory, known_of};
-ghost use Rattle.dp_checker.specs.Judged.{after, atom_refusal, first_refusal, judge, line_refusal, verdict, with_atom};
+ghost use Rattle.dp_checker.specs.Judged.{after, atom_refusal, first_refusal, judge, line_refusal, verdict, verdict_of};
 ghost use Rattle.dp_checker.specs.Kept.{IsKept, IsRight};
 ghost use Rattle.dp_checker.specs.Known.{nothing};
 ghost use Rattle.dp_base.specs.Names.{named};
@@ -88,19 +88,27 @@ impl<'p> Checker<'p> {
     /// conclusion is refused behind its last line.
     pub fn finish(self, lines: u64) -> Result<Verdict, StepRefusal>
         requires { lines ≤ 2 ^ 62 }
-        ensures verdict { result ≡ verdict self.progress lines }
-        ensures sound { IfOk result (IsRight self.problem) }
+        ensures verdict { result ≡ verdict self.entry.progress lines }
+        ensures sound { IfOk result (IsRight self.entry.problem) }
     {
-        if let Some(refusal) = self.refusal {
-            return Err(refusal);
+        match &self.refusal {
+            Some(refusal) => Err(*refusal),
+            None => verdict_of(&self.facts.conclusion, lines),
         }
-        match self.facts.conclusion {
-            Some(verdict) => Ok(verdict),
-            None => Err(StepRefusal {
-                line: lines + 1,
-                why: Why::NoConclusion,
-            }),
-        }
+    }
+}
+
+/// The conclusion, or that there is none.
+fn verdict_of(conclusion: &Option<Verdict>, lines: u64) -> Result<Verdict, StepRefusal>
+    requires { lines ≤ 2 ^ 62 }
+    ensures { result ≡ verdict_of lines conclusion.now }
+{
+    match conclusion {
+        Some(verdict) => Ok(*verdict),
+        None => Err(StepRefusal {
+            line: lines + 1,
+            why: Why::NoConclusion,
+        }),
     }
 }
 

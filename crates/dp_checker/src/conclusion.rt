@@ -9,11 +9,11 @@ ghost use Rattle.dp_checker.specs.Kept.{AreBelow, IsKept};
 ghost use Rattle.dp_checker.specs.Rules.{concludes};
 ghost use Rattle.dp_lines.specs.declared.line.Claim.TheVariants.{Unsat, Bound};
 
+use crate::Why;
 use crate::facts::{Denial, Facts};
 use crate::fault::Fault;
 use crate::literals::literal_atom;
-use crate::start::{entails_all, start_state};
-use crate::Why;
+use crate::start::{entails_all, start_beyond};
 use dp_domain::{Atom, Op, State, Verdict};
 use dp_lines::Claim;
 use dp_parts::{Goal, Problem};
@@ -57,13 +57,13 @@ fn judge_bound(problem: &Problem, facts: &Facts, literal: i64) -> Result<Verdict
         return Err(Fault::Refused(Why::UnknownAtom(literal)));
     };
     let goal = problem.goal();
-    if !has_goal(goal) {
+    if !has_goal(&goal) {
         return Err(Fault::Refused(Why::NoGoal));
     }
-    if !is_bound(goal, atom) {
+    if !is_bound(&goal, &atom) {
         return Err(Fault::Refused(Why::WrongBound));
     }
-    let start = start_state(problem, [atom.negated()].as_slice())?;
+    let start = start_beyond(problem, &atom)?;
     if !concludes(&start, &facts.steps) {
         return Err(Fault::Refused(Why::NotConcluded));
     }
@@ -71,8 +71,8 @@ fn judge_bound(problem: &Problem, facts: &Facts, literal: i64) -> Result<Verdict
 }
 
 /// Whether a solution is to be best in some way.
-fn has_goal(goal: Goal) -> bool
-    ensures { result ≡ has_goal goal }
+fn has_goal(goal: &Goal) -> bool
+    ensures { result ≡ has_goal goal.now }
 {
     match goal {
         Goal::Satisfy => false,
@@ -81,13 +81,13 @@ fn has_goal(goal: Goal) -> bool
 }
 
 /// Whether the atom is a bound on the goal's variable, on the goal's side.
-fn is_bound(goal: Goal, atom: Atom) -> bool
-    ensures { result ≡ is_bound goal atom }
+fn is_bound(goal: &Goal, atom: &Atom) -> bool
+    ensures { result ≡ is_bound goal.now atom.now }
 {
     match goal {
         Goal::Satisfy => false,
-        Goal::Minimize(var) => atom.var() == var && is_at_least(atom.op()),
-        Goal::Maximize(var) => atom.var() == var && is_at_most(atom.op()),
+        Goal::Minimize(var) => atom.var() == *var && is_at_least(atom.op()),
+        Goal::Maximize(var) => atom.var() == *var && is_at_most(atom.op()),
     }
 }
 

@@ -58,11 +58,7 @@ pub fn add_atom(atoms: &mut IndexMap<u64, Atom>, id: u64, atom: Atom) -> Result<
 }
 
 /// Adds a step under a new number.
-pub fn add_step(
-    steps: &mut IndexMap<u64, Denial>,
-    id: u64,
-    denial: Denial,
-) -> Result<(), Memory>
+pub fn add_step(steps: &mut IndexMap<u64, Denial>, id: u64, denial: Denial) -> Result<(), Memory>
     requires { found id steps.old.entries ≡ None }
     ensures added { OnOk result (steps.new.entries ≡ steps.old.entries ++ (id, denial) ∷ []) }
     ensures err { OnErr result (steps.new.entries ≡ steps.old.entries) }

@@ -12,11 +12,11 @@ ghost use Rattle.dp_checker.specs.Judged.{grounds, inference_denial, inference_r
 ghost use Rattle.dp_checker.specs.Kept.{IsKept};
 ghost use Rattle.dp_checker.specs.Rules.{implies, is_labelled};
 
+use crate::Why;
 use crate::facts::{Denial, Facts};
 use crate::fault::Fault;
 use crate::literals::{first_undefined_of, inference_denial};
 use crate::start::start_state;
-use crate::Why;
 use dp_domain::{Memory, Name, Rule, State};
 use dp_parts::{Part, Problem};
 
@@ -97,7 +97,11 @@ fn parts_of<'p>(problem: &'p Problem, constraint: Option<u64>) -> Option<&'p [Pa
 }
 
 /// The parts that an inference may rest on.
-fn grounds<'p>(problem: &'p Problem, constraint: Option<u64>, label: &Option<Name>) -> Option<&'p [Part]>
+fn grounds<'p>(
+    problem: &'p Problem,
+    constraint: Option<u64>,
+    label: &Option<Name>,
+) -> Option<&'p [Part]>
     ensures parts { MatchOption result (grounds (posed problem.now) constraint label.now ≡ []) (λ parts. map labelled parts.now ≡ grounds (posed problem.now) constraint label.now) }
     ensures covered { IfSome result (λ parts. Each (λ q. Covers (face_of q).scope problem.now.initial) parts.now) }
 {

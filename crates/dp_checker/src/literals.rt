@@ -47,14 +47,23 @@ pub fn first_undefined_of(
 ) -> Option<i64>
     ensures { result ≡ first_undefined atoms.now.entries (with_last premises.now consequent) }
 {
-    if let Some(literal) = first_undefined(atoms, premises) {
-        return Some(literal);
+    let first = first_undefined(atoms, premises);
+    if first.is_some() {
+        first
+    } else {
+        undefined_last(atoms, consequent)
     }
+}
+
+/// The consequent, if its atom is not defined.
+fn undefined_last(atoms: &IndexMap<u64, Atom>, consequent: Option<i64>) -> Option<i64>
+    ensures { result ≡ first_undefined atoms.now.entries (with_last [] consequent) }
+{
     let literal = consequent?;
     if literal_atom(atoms, literal).is_some() {
         None
     } else {
-        Some(literal)
+        consequent
     }
 }
 

@@ -12,11 +12,11 @@ ghost use Rattle.dp_checker.specs.Kept.{AreBelow, IsKept};
 ghost use Rattle.dp_checker.specs.Known.{cons_some, denials, found, literal_atoms};
 ghost use Rattle.dp_checker.specs.Rules.{proves};
 
+use crate::Why;
 use crate::facts::{Denial, Facts};
 use crate::fault::Fault;
 use crate::literals::{first_undefined, first_unknown, literal_atoms};
 use crate::start::start_state;
-use crate::Why;
 use dp_domain::{Atom, Memory, State, VarId};
 use dp_parts::Problem;
 use indexmap::IndexMap;

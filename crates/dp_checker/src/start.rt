@@ -1,7 +1,8 @@
 // Start states, and what a state entails.
 
-ghost use Rattle.std.specs.Prelude.{◌≡◌, length, IfOk, OnOk};
-ghost use Rattle.dp_domain.specs.States.{cut_all, entails_all};
+ghost use Rattle.std.specs.Prelude.{◌≡◌, ◌<◌, length, IfOk, OnOk};
+ghost use Rattle.dp_domain.specs.Atoms.{negated};
+ghost use Rattle.dp_domain.specs.States.{cut, cut_all, entails_all};
 ghost use Rattle.dp_parts.specs.Problems.{IsProblem};
 ghost use Rattle.dp_checker.specs.Kept.{AreBelow};
 
@@ -16,6 +17,17 @@ pub fn start_state(problem: &Problem, atoms: &[Atom]) -> Result<State, Memory>
 {
     let mut state = problem.initial().copy()?;
     cut_by(&mut state, atoms)?;
+    Ok(state)
+}
+
+/// The initial state of the problem where the atom fails.
+pub fn start_beyond(problem: &Problem, atom: &Atom) -> Result<State, Memory>
+    requires { atom.now.var < length problem.now.initial }
+    ensures start { IfOk result (λ state. state ≡ cut problem.now.initial (negated atom.now)) }
+    ensures problem { OnOk result (IsProblem problem.now) }
+{
+    let mut state = problem.initial().copy()?;
+    state.exclude(atom.negated())?;
     Ok(state)
 }
 

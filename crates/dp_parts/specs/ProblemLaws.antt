@@ -18,9 +18,9 @@ each_image P Q f h (x ∷ xs) e = (h x e.0, each_image P Q f h xs e.1)
 pub soundly_posed : (p : Csp) → IsProblem p → IsSoundlyPosed (posed p)
 soundly_posed p kept =
     each_image (Each (λ q. Covers (face_of q).scope p.initial)) (Each (IsSoundPart (length p.initial))) (map labelled)
-        (λ ps e. each_image (λ q. Covers (face_of q).scope p.initial) (IsSoundPart (length p.initial)) labelled
-            (λ q covers. record { lawful = part_lawful q; covered = covers }) ps e)
-        p.parts kept.parts
+    (λ ps e. each_image (λ q. Covers (face_of q).scope p.initial) (IsSoundPart (length p.initial)) labelled
+    (λ q covers. record { lawful = part_lawful q; covered = covers }) ps e)
+    p.parts kept.parts
 
 -- a solution of a problem solves it as it is posed
 pub solution_solves : (p : Csp) (s : ℕ → ℤ) → IsSolution s p → Solves s (posed p)
@@ -28,6 +28,6 @@ solution_solves p s solution = record {
   within = solution.within;
   passes = each_image (Each (λ q. MeetsPart q s)) (Each (λ part. Passes s part.face)) (map labelled)
       (λ ps e. each_image (λ q. MeetsPart q s) (λ part. Passes s part.face) labelled
-          (λ q meets d covers lies. part_sound q d s covers lies meets) ps e)
+      (λ q meets d covers lies. part_sound q d s covers lies meets) ps e)
       p.parts solution.meets;
 }

@@ -1,0 +1,9 @@
+mod Arms
+mod Cuts
+mod FieldLaws
+mod LineLaws
+mod Loops
+mod NumberLaws
+mod PieceLaws
+mod SpellingLaws
+mod Steps

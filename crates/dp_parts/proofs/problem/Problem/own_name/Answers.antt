@@ -15,12 +15,12 @@ returns c =
     let own : List ℕ = c.self.inside.own.items in
     let x : ℕ = c.var.inside.0 in
     let within : x < length c.self.inside.initial =
-        subst (λ (q : Csp). x < length q.initial) (sym c.self.view_is) (subst (λ (y : ℕ). y < length c.args.self.now.initial) (sym c.var.view_is) c.requires) in
+    subst (λ (q : Csp). x < length q.initial) (sym c.self.view_is) (subst (λ (y : ℕ). y < length c.args.self.now.initial) (sym c.var.view_is) c.requires) in
     let here : slice_get own x ≡ Some place = slice_get_read own (length c.self.inside.initial) x place (sym c.self.invariant.owned) within c.index-place.ensures in
     let known = c.self.invariant.own x place here in
     let there : slice_get c.self.inside.names.entries place ≡ Some (c.unwrap.result.0.now, x) =
-        with_variable (slice_get c.self.inside.names.entries place) c.unwrap.result.0.now known.0 c.unwrap.result.1.now x
-            (sym c.get_index.ensures.entry ∙ ap (option_map deref_pair) c.unwrap.ensures) known.1 in
+    with_variable (slice_get c.self.inside.names.entries place) c.unwrap.result.0.now known.0 c.unwrap.result.1.now x
+    (sym c.get_index.ensures.entry ∙ ap (option_map deref_pair) c.unwrap.ensures) known.1 in
     subst (λ (q : Csp). (n : ℕ) × (slice_get q.own c.args.var ≡ Some n) × (slice_get q.names n ≡ Some (c.unwrap.result.0.now, c.args.var))) c.self.view_is
-        (subst (λ (y : ℕ). (n : ℕ) × (slice_get own y ≡ Some n) × (slice_get c.self.inside.names.entries n ≡ Some (c.unwrap.result.0.now, y))) c.var.view_is
-            (place, here, there))
+    (subst (λ (y : ℕ). (n : ℕ) × (slice_get own y ≡ Some n) × (slice_get c.self.inside.names.entries n ≡ Some (c.unwrap.result.0.now, y))) c.var.view_is
+    (place, here, there))
