@@ -12,13 +12,12 @@ ghost use Rattle.dp_command.specs.Replies.{most, Replies, IsSound, HasNoForm, Po
 ghost use Rattle.dp_command.specs.Texts.{status_of};
 ghost use Rattle.dp_command.specs.Words.{Check, words_of};
 
+use crate::Trouble;
 use crate::reading::read_whole;
 use crate::reply::Reply;
-use crate::small::{ModelFault, judge_log, read_model};
-use crate::Trouble;
 use dp_desk::{Desk, In};
 use dp_parts::Problem;
-use dp_small::LogAnswer;
+use dp_small::{LogAnswer, ModelFault, judge_log, read_model};
 use std::alloc::Global;
 
 // So many bytes are read of an input at most: one more than a text may have.

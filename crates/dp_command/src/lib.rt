@@ -5,14 +5,12 @@ mod check;
 mod program;
 mod reading;
 mod reply;
-
 mod saying;
-mod small;
 mod trouble;
 mod words;
 
-pub(crate) use trouble::Trouble;
 pub use program::run;
+pub(crate) use trouble::Trouble;
 pub use words::{Command, read_words};
 
 #[cfg(test)]

@@ -15,13 +15,16 @@ fn main(rt: HostRuntime) -> ExitCode {
     let alloc = rt.alloc();
     let mut desk = HostDesk::new(&rt);
     let status = match env::args(&rt) {
-        Ok(arguments) => match arguments.collect(alloc) {
-            Ok(arguments) => match words_of(alloc, &arguments) {
-                Ok(words) => run(alloc, words.as_slice(), &mut desk),
+        Ok(arguments) => {
+            let arguments: Result<Vec<String>, AllocError> = arguments.skip(1).collect(alloc);
+            match arguments {
+                Ok(arguments) => match words_of(alloc, &arguments) {
+                    Ok(words) => run(alloc, words.as_slice(), &mut desk),
+                    Err(AllocError) => OUT_OF_MEMORY,
+                },
                 Err(AllocError) => OUT_OF_MEMORY,
-            },
-            Err(AllocError) => OUT_OF_MEMORY,
-        },
+            }
+        }
         Err(error) if error.kind() == ErrorKind::OutOfMemory => OUT_OF_MEMORY,
         // An argument that is no text is no word of any command.
         Err(_) => run(alloc, &[], &mut desk),
@@ -29,7 +32,11 @@ fn main(rt: HostRuntime) -> ExitCode {
     ExitCode::from(status)
 }
 
-// The arguments behind the program's name.
+// The words that the arguments are.
 fn words_of(alloc: Global, arguments: &[String]) -> Result<Vec<&str>, AllocError> {
-    arguments.iter().skip(1).map(|word| word.as_str()).collect(alloc)
+    let mut words = Vec::new(alloc);
+    for argument in arguments {
+        words.push(argument.as_str())?;
+    }
+    Ok(words)
 }
