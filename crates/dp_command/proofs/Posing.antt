@@ -4,8 +4,9 @@ use Rattle.dp_desk.specs.Channel.{Files}
 use Rattle.dp_parts.specs.Problems.{Csp, IsSolution}
 use Rattle.dp_small.specs.declared.answer.LogAnswer.{LogAnswer}
 use Rattle.dp_small.specs.declared.answer.LogAnswer.TheVariants.{Accepted, NotBuilt, Refused}
-use Rattle.dp_small.specs.Models.{SmallModel, IsSmallModel, model_text, Satisfies}
+use Rattle.dp_small.specs.Models.{SmallModel, IsSmallModel, model_text}
 use Rattle.dp_small.specs.Problems.{problem_of}
+use Rattle.dp_small.proofs.Solutions.{no_solution_refutes}
 use Rattle.dp_command.specs.declared.reply.Reply.{Reply}
 use Rattle.dp_command.specs.declared.reply.Reply.TheVariants.{NoCommand, ModelRefused, Judged}
 use Rattle.dp_command.specs.declared.trouble.Trouble.{Trouble}
@@ -16,17 +17,14 @@ use Rattle.dp_command.specs.Words.{Check, words_of}
 
 -- the text was read, and spells a model of this problem
 pub poses : (names : Option Files) (name text seen : List ℕ) (p : Csp) → IsRead most names name text → seen ≡ text →
-    ((m : SmallModel) × IsSmallModel m × (seen ≡ model_text m) × (p ≡ problem_of m)) →
-    ((m : SmallModel) → IsSmallModel m → ((s : ℕ → ℤ) → IsSolution s (problem_of m) → ⊥) → (s : List ℕ → ℤ) → Satisfies s m → ⊥) →
-    Poses names name p
-poses names name text seen p read is built meaning = record {
+    ((m : SmallModel) × IsSmallModel m × (seen ≡ model_text m) × (p ≡ problem_of m)) → Poses names name p
+poses names name text seen p read is built = record {
   m = built.0;
   spelled = record {
     read = let P : List ℕ → Type 0 = λ t. IsRead most names name t in subst P (sym is ∙ built.2) read;
     form = built.1;
   };
   posed = built.3;
-  meaning = λ none. meaning built.0 built.1 (λ s solution. none s (let P : Csp → Type 0 = λ q. IsSolution s q in subst P (sym built.3) solution));
 }
 
 -- an accepted log of a problem without solutions says that the model cannot be satisfied
@@ -36,7 +34,8 @@ sound_answer names model log p Accepted posed none = record {
   log = log;
   m = posed.m;
   model = record { model = model; asked = refl; spelled = posed.spelled };
-  none = posed.meaning (none refl);
+  none = no_solution_refutes posed.m posed.spelled.form
+      (let P : Csp → Type 0 = λ q. (s : ℕ → ℤ) → IsSolution s q → ⊥ in subst P posed.posed (none refl));
 }
 sound_answer names model log p (NotBuilt number) posed none = tt
 sound_answer names model log p (Refused why number bytes) posed none = tt

@@ -1,7 +1,7 @@
 -- Which reply belongs to the words and the inputs.
 use Rattle.std.specs.Prelude.{◌≡◌, ℕ, List, Option, ℤ}
 use Rattle.dp_desk.specs.Channel.{Files}
-use Rattle.dp_parts.specs.Problems.{Csp, posed, IsSolution}
+use Rattle.dp_parts.specs.Problems.{Csp, posed}
 use Rattle.dp_small.specs.declared.answer.LogAnswer.{LogAnswer}
 use Rattle.dp_small.specs.declared.answer.LogAnswer.TheVariants.{Accepted, NotBuilt, Refused}
 use Rattle.dp_small.specs.Models.{SmallModel, IsSmallModel, model_text, Satisfies}
@@ -74,10 +74,8 @@ IsSound names words NoCommand = Unit {0}
 IsSound names words ModelRefused = Unit {0}
 IsSound names words (Judged answer) = IsSoundAnswer names words answer
 
--- the bytes that are read of the input of this name spell a model of the small form, and this is its problem;
--- where the problem has no solution, no integers within the model's bounds meet all its inequalities
+-- the bytes that are read of the input of this name spell a model of the small form, and this is its problem
 pub record Poses (names : Option Files) (name : List ℕ) (problem : Csp) : Type 0 where
   pub m : SmallModel
   pub spelled : Spells names name m
   pub posed : problem ≡ problem_of m
-  pub meaning : ((s : ℕ → ℤ) → IsSolution s problem → ⊥) → (s : List ℕ → ℤ) → Satisfies s m → ⊥
