@@ -145,7 +145,7 @@ pub read_all_again : {A : Type 0} (read : List ℕ → Option A) (text : A → L
 read_all_again read text P one [] each = refl
 read_all_again read text P one (x ∷ xs) each = rw (one x each.0, read_all_again read text P one xs each.1) refl
 
-ended_found : (bytes : List ℕ) (u : Unit {0}) → ended bytes ≡ Some u → bytes ≡ []
+pub ended_found : (bytes : List ℕ) (u : Unit {0}) → ended bytes ≡ Some u → bytes ≡ []
 ended_found [] u e = refl
 ended_found (b ∷ bytes) u e = absurd cc
 

@@ -2,8 +2,11 @@ mod Arms
 mod Cuts
 mod FieldLaws
 mod LineLaws
+mod LogLaws
 mod Loops
 mod NumberLaws
 mod PieceLaws
 mod SpellingLaws
+mod Solutions
 mod Steps
+mod VariableLaws

@@ -27,7 +27,7 @@ pub record GoesOn (p : Posed) (before : Result Known StepRefusal) (bytes : List 
   pub spelled : Spells bytes line
   pub passes : first_refusal p (known_in before) line ≡ None
   pub known : known_in now ≡ after p (known_in before) line
-  pub open : IsOk now
+  pub going : IsOk now
   pub unsat : OnlyUnsat (known_in now)
 
 -- the bytes spell a line that a test refuses

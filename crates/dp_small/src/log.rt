@@ -8,7 +8,7 @@ ghost use Rattle.dp_small.specs.Logs.{AnswersLog, at_end, refused};
 
 use crate::LogAnswer;
 use crate::lines::read_line;
-use crate::pieces::cut;
+use crate::pieces::first_line;
 use dp_checker::{CheckFault, Checker, Why};
 use dp_domain::{Memory, Text, Verdict};
 use dp_parts::Problem;
@@ -36,7 +36,7 @@ fn judge_line(
     number: u64,
     bytes: &[u8],
 ) -> Result<Option<LogAnswer>, Memory>
-    requires open { IsOk checker.old.progress }
+    requires going { IsOk checker.old.progress }
     requires unsat { OnlyUnsat (known_in checker.old.progress) }
     ensures problem { checker.new.problem ≡ checker.old.problem }
     ensures goes_on { IfOk result (λ answer. IfNone answer (GoesOn (posed checker.old.problem) checker.old.progress bytes.now checker.new.progress)) }
@@ -54,8 +54,8 @@ fn judge_line(
 
 /// The answer behind the last whole line, which has the number before this one.
 fn at_end(checker: Checker, number: u64, rest: &[u8]) -> LogAnswer
-    requires open { IsOk checker.entry.progress }
-    requires unsat { OnlyUnsat (known_in checker.entry.progress) }
+    requires going { IsOk checker.progress }
+    requires unsat { OnlyUnsat (known_in checker.progress) }
     requires few { number ≤ 2 ^ 62 }
     ensures answer { result ≡ at_end number rest.now (is_some (known_in checker.entry.progress).conclusion) }
     ensures sound { result ≡ Accepted → (s : ℕ → ℤ) → IsSolution s checker.entry.problem → ⊥ }
@@ -80,7 +80,7 @@ pub fn judge_log(alloc: Global, problem: &Problem, log: &[u8]) -> Result<LogAnsw
     let mut checker = Checker::new(alloc, problem)?;
     let mut number: u64 = 1;
     let mut rest = log;
-    while let Ok((bytes, behind)) = cut(rest, b'\n') {
+    while let Some((bytes, behind)) = first_line(rest) {
         if let Some(answer) = judge_line(alloc, &mut checker, number, bytes)? {
             return Ok(answer);
         }

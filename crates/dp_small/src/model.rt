@@ -1,6 +1,7 @@
 // Models in the small form.
 
-ghost use Rattle.std.specs.Prelude.{◌≡◌, ◌==◌, ⊥, IfOk, IsErrOf, Err};
+ghost use Rattle.std.specs.Prelude.{◌≡◌, IfOk, IsErrOf};
+ghost use Rattle.dp_small.specs.declared.fault.ModelFault.TheVariants.{NotBuilt};
 ghost use Rattle.dp_small.specs.Models.{IsSmallModel, SmallModel, model_text};
 ghost use Rattle.dp_small.specs.Problems.{problem_of};
 ghost use Rattle.dp_small.specs.Reading.{Gives};
@@ -9,7 +10,7 @@ ghost use Rattle.dp_small.specs.ReadModels.{bounds_of, coefficient_of, lists_of,
 use crate::ModelFault;
 use crate::names::name_of;
 use crate::numbers::{integer_of, small_of};
-use crate::pieces::{after, cut, ended, pieces};
+use crate::pieces::{after, cut, ended, first_line, pieces};
 use dp_domain::{Dom, Memory, Name, State, VarId};
 use dp_parts::{Goal, Part, Parts, Problem};
 use dp_rule_linear::LinLe;
@@ -63,7 +64,7 @@ fn variable_of(alloc: Global, line: &[u8]) -> Result<Declared, ModelFault>
 
 /// The variable at the front of a text and what follows its line, if one is declared there.
 fn next_variable(alloc: Global, text: &[u8]) -> Result<Option<(Declared, &[u8])>, Memory> {
-    let Ok((line, rest)) = cut(text, b'\n') else {
+    let Some((line, rest)) = first_line(text) else {
         return Ok(None);
     };
     match variable_of(alloc, line) {
@@ -183,7 +184,7 @@ fn next_part<'a>(
     names: &IndexMap<Name, VarId>,
     text: &'a [u8],
 ) -> Result<Option<(Part, usize, &'a [u8])>, Memory> {
-    let Ok((line, rest)) = cut(text, b'\n') else {
+    let Some((line, rest)) = first_line(text) else {
         return Ok(None);
     };
     match part_of(alloc, names, line) {

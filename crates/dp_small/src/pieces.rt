@@ -1,6 +1,6 @@
 // Pieces of a text: what stands before and behind a byte, a literal, and what is left.
 
-ghost use Rattle.std.specs.Prelude.{◌≡◌, ◌<◌, ◌==◌, IfOk, IfSome, drop, length, map, position};
+ghost use Rattle.std.specs.Prelude.{◌≡◌, ◌<◌, ◌==◌, None, Some, IfOk, IfSome, MatchOption, drop, length, map, position};
 ghost use Rattle.std.specs.List.{slice_split};
 ghost use Rattle.dp_small.specs.Reading.{Gives, after, cut, ended};
 
@@ -35,6 +35,20 @@ pub fn cut(bytes: &[u8], sep: u8) -> Result<(&[u8], &[u8]), ModelFault>
             Ok((front, behind_first(rest)))
         }
         None => Err(ModelFault::NotBuilt),
+    }
+}
+
+/// The first line of a text, without its end, and what follows it.
+#[tactic(auto, using(crate::proofs::Cuts::cut_at_place, crate::proofs::Cuts::cut_at_none))]
+pub fn first_line(text: &[u8]) -> Option<(&[u8], &[u8])>
+    ensures { MatchOption result (cut 10 text.now ≡ None) (λ x. cut 10 text.now ≡ Some (x.0.now, x.1.now)) }
+{
+    match place(text, b'\n') {
+        Some(place) => {
+            let (front, rest) = text.split_at(place);
+            Some((front, behind_first(rest)))
+        }
+        None => None,
     }
 }
 
