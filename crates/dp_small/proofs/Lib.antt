@@ -7,6 +7,6 @@ mod Loops
 mod NumberLaws
 mod PieceLaws
 mod SpellingLaws
-mod Solutions
+pub mod Solutions
 mod Steps
 mod VariableLaws
