@@ -6,6 +6,7 @@ use Rattle.dp_parts.specs.declared.goal.Goal.TheVariants.{Satisfy}
 use Rattle.dp_parts.specs.declared.part.Part.{Part}
 use Rattle.dp_parts.specs.declared.part.Part.TheVariants.{LinLe}
 use Rattle.dp_parts.specs.Problems.{Csp}
+use Rattle.dp_rule_linear.specs.Forms.{Linear}
 use Rattle.dp_small.specs.Models.{Inequality, SmallModel, names_of}
 
 -- the place of a name in order of declaration
@@ -41,9 +42,13 @@ abbrev pub ordered_terms : List (List ℕ) → List (ℤ × List ℕ) → List (
 ordered_terms declared [] = []
 ordered_terms declared (t ∷ ts) = insert_term (t.0, place_of declared t.1) (ordered_terms declared ts)
 
--- an inequality is one part: a sum of at most its limit, without a condition
+-- the linear form of an inequality: no condition, and the terms in order of declaration
+abbrev pub linear_of : List (List ℕ) → Inequality → Linear
+linear_of declared q = record { condition = None; terms = ordered_terms declared q.terms; rhs = q.limit }
+
+-- an inequality is one part: a sum of at most its limit
 abbrev pub part_of : List (List ℕ) → Inequality → Part
-part_of declared q = LinLe (record { condition = None; terms = ordered_terms declared q.terms; rhs = q.limit })
+part_of declared q = LinLe (linear_of declared q)
 
 -- each variable under its own name, with the numbers from its least to its greatest, and each
 -- inequality as a constraint of one part

@@ -1,13 +1,13 @@
 // Models in the small form.
 
-ghost use Rattle.std.specs.Prelude.{◌≡◌, ◌++◌, None, Some, IfOk, IsErrOf, MatchOption, map};
-ghost use Rattle.std.specs.List.{flat_map};
+ghost use Rattle.std.specs.Prelude.{◌≡◌, ℕ, ◌-◌, ◌^◌, ◌≤◌, ◌++◌, [], ◌∷◌, List, None, Some, IfNone, IfOk, IfSome, IsErrOf, MatchOption, length, map, min};
+ghost use Rattle.std.specs.List.{flat_map, sum_by};
 ghost use Rattle.dp_base.specs.Lists.{Each};
 ghost use Rattle.dp_small.specs.declared.fault.ModelFault.TheVariants.{NotBuilt};
-ghost use Rattle.dp_small.specs.Models.{IsSmallModel, IsVariable, SmallModel, model_text, variable_text};
-ghost use Rattle.dp_small.specs.Problems.{problem_of};
+ghost use Rattle.dp_small.specs.Models.{Differ, Inequality, IsSmallModel, IsVariable, SmallModel, model_text, variable_text};
+ghost use Rattle.dp_small.specs.Problems.{linear_of, numbered, numbers, problem_of};
 ghost use Rattle.dp_small.specs.Reading.{Gives};
-ghost use Rattle.dp_small.specs.ReadModels.{bounds_of, coefficient_of, declared_of, lists_of, next_of, variable_of};
+ghost use Rattle.dp_small.specs.ReadModels.{AreNumbered, ReadsAs, bounds_of, coefficient_of, declared_of, inequality_of, lists_of, names_in, next_of, variable_of};
 
 use crate::ModelFault;
 use crate::names::name_of;
@@ -102,7 +102,15 @@ struct Variables {
 }
 
 /// The variables as a problem has them.
-fn declare(alloc: Global, variables: &[Declared]) -> Result<Variables, ModelFault> {
+fn declare(alloc: Global, variables: &[Declared]) -> Result<Variables, ModelFault>
+    requires each { Each IsVariable (map declared_of variables.now) }
+    requires few { length variables.now ≤ 200000 }
+    ensures names { IfOk result (λ v. v.names.entries ≡ numbered 0 (map (λ d. d.name) variables.now)) }
+    ensures own { IfOk result (λ v. v.own.items ≡ map (λ e. e.1) (numbered 0 variables.now)) }
+    ensures sets { IfOk result (λ v. v.sets.items ≡ map (λ d. numbers d.least d.greatest) variables.now) }
+    ensures apart { IfOk result (λ v. Differ (map (λ d. d.name) variables.now)) }
+    ensures twice { IsErrOf result NotBuilt → Differ (map (λ d. d.name) variables.now) → ⊥ }
+{
     let mut names = IndexMap::new(alloc);
     let mut own = Vec::new(alloc);
     let mut sets = Vec::new(alloc);
@@ -176,7 +184,11 @@ fn part_of(
     alloc: Global,
     names: &IndexMap<Name, VarId>,
     line: &[u8],
-) -> Result<(Part, usize), ModelFault> {
+) -> Result<(Part, usize), ModelFault>
+    requires { AreNumbered names.now.entries }
+    ensures read { IfOk result (λ r. (q : Inequality) × (inequality_of (names_in names.now.entries) line.now ≡ Some q) × (r.0 ≡ Part.LinLe (linear_of (names_in names.now.entries) q)) × (r.1 ≡ length q.terms)) }
+    ensures none { IsErrOf result NotBuilt → inequality_of (names_in names.now.entries) line.now ≡ None }
+{
     let (coefficients, variables, limit) = lists_of(line)?;
     let limit = integer_of(limit)?;
     let coefficients = pieces(alloc, coefficients, b',')?;
@@ -195,7 +207,11 @@ fn next_part<'a>(
     alloc: Global,
     names: &IndexMap<Name, VarId>,
     text: &'a [u8],
-) -> Result<Option<(Part, usize, &'a [u8])>, Memory> {
+) -> Result<Option<(Part, usize, &'a [u8])>, Memory>
+    requires { AreNumbered names.now.entries }
+    ensures read { IfOk result (λ r. IfSome r (λ x. (q : Inequality) × (next_of (inequality_of (names_in names.now.entries)) text.now ≡ Some (q, x.2.now)) × (x.0 ≡ Part.LinLe (linear_of (names_in names.now.entries) q)) × (x.1 ≡ length q.terms))) }
+    ensures none { IfOk result (λ r. IfNone r (next_of (inequality_of (names_in names.now.entries)) text.now ≡ None)) }
+{
     let Some((line, rest)) = first_line(text) else {
         return Ok(None);
     };
@@ -212,7 +228,10 @@ fn parts_of<'a>(
     alloc: Global,
     names: &IndexMap<Name, VarId>,
     text: &'a [u8],
-) -> Result<(Vec<Parts>, u64, &'a [u8]), Memory> {
+) -> Result<(Vec<Parts>, u64, &'a [u8]), Memory>
+    requires { AreNumbered names.now.entries }
+    ensures read { IfOk result (λ r. (qs : List Inequality) × ReadsAs (names_in names.now.entries) text.now qs r.2.now × (r.0.items ≡ map (λ q. Part.LinLe (linear_of (names_in names.now.entries) q) ∷ []) qs) × (r.1 ≡ min (sum_by (λ q. length q.terms) qs) (2 ^ 64 - 1))) }
+{
     let mut constraints = Vec::new(alloc);
     let mut elements: u64 = 0;
     let mut rest = text;
