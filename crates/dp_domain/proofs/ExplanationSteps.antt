@@ -52,7 +52,7 @@ pub holes_more : (p : ℤ → Bool) (g : ℤ → Atomic) (xs : List ℤ) (i : �
 holes_more p g xs i v first old now h e k n =
     let a : take i xs ++ v ∷ [] ≡ take (i + 1) xs = ap (λ (w : ℤ). take i xs ++ w ∷ []) e ∙ sym (take_more xs i (pos 0) h) in
     let b : map g (filter p (take i xs)) ++ map g (filter p (v ∷ [])) ≡ map g (filter p (take (i + 1) xs)) =
-        sym (map-append g (filter p (take i xs)) (filter p (v ∷ []))) ∙ ap (map g) (sym (filter-append p (take i xs) (v ∷ [])) ∙ ap (filter p) a)
+    sym (map-append g (filter p (take i xs)) (filter p (v ∷ []))) ∙ ap (map g) (sym (filter-append p (take i xs) (v ∷ [])) ∙ ap (filter p) a)
     in
     n ∙ ap (λ ys. ys ++ map g (filter p (v ∷ []))) k ∙ append_assoc first (map g (filter p (take i xs))) (map g (filter p (v ∷ []))) ∙ ap (λ ys. first ++ ys) b
 

@@ -248,13 +248,16 @@ gives-alive f d a n l g = false_from_ne_true (is_dead (cut d a)) (λ t. idle f d
 is_turn : (f : Face) (d : Domains) (b : Bool) (o : Option Atomic) → is_dead d ≡ false → f.test d ≡ b → (f.test d ≡ false → IsFirstOf f d f.scope o) → IsTurn f d (cond b (Some Clash) (option_map Atom o))
 is_turn f d true o l e h = e
 is_turn f d false None l e h = (e, λ b k. h e b k k.of_scope)
-is_turn f d false (Some a) l e h = let q = h e in (e, record {
-  candidate = q.0;
-  variable = λ b k. q.2 b k k.of_scope;
-  preferred = q.3;
-  value = q.1;
-  alive = gives-alive f d a e l q.0.given;
-})
+is_turn f d false (Some a) l e h = let q = h e in (
+  e,
+  record {
+    candidate = q.0;
+    variable = λ b k. q.2 b k k.of_scope;
+    preferred = q.3;
+    value = q.1;
+    alive = gives-alive f d a e l q.0.given;
+  },
+)
 
 -- the turn of a part is its turn in words of all integers
 pub turn_of-is : (f : Face) (d : Domains) → Climbs f.scope → is_dead d ≡ false → IsTurn f d (turn_of f d)

@@ -26,7 +26,12 @@ pub(crate) fn describe(now: &State, initial: &State, scope: &[VarId]) -> Result<
 }
 
 /// The lower bound where it rose, the upper bound where it fell, then the holes between them in ascending order.
-fn push_described(atoms: &mut Vec<Atom>, initial: &State, now: &State, var: VarId) -> Result<(), Memory>
+fn push_described(
+    atoms: &mut Vec<Atom>,
+    initial: &State,
+    now: &State,
+    var: VarId,
+) -> Result<(), Memory>
     requires initial { var < length initial.now }
     requires now { var < length now.now }
     ensures atoms { OnOk result (atoms.new.items ≡ atoms.old.items ++ described (values initial.now var) (values now.now var) var) }
@@ -38,7 +43,12 @@ fn push_described(atoms: &mut Vec<Atom>, initial: &State, now: &State, var: VarI
     push_holes(atoms, var, initial.set(var).values(), now.set(var))
 }
 
-fn push_lower(atoms: &mut Vec<Atom>, var: VarId, first: Option<i64>, lower: Option<i64>) -> Result<(), Memory>
+fn push_lower(
+    atoms: &mut Vec<Atom>,
+    var: VarId,
+    first: Option<i64>,
+    lower: Option<i64>,
+) -> Result<(), Memory>
     requires { ForSome lower IsSmall }
     ensures { OnOk result (atoms.new.items ≡ atoms.old.items ++ bound_atom (at_least var) (is_less first lower) lower) }
 {
@@ -49,7 +59,12 @@ fn push_lower(atoms: &mut Vec<Atom>, var: VarId, first: Option<i64>, lower: Opti
     Ok(())
 }
 
-fn push_upper(atoms: &mut Vec<Atom>, var: VarId, last: Option<i64>, upper: Option<i64>) -> Result<(), Memory>
+fn push_upper(
+    atoms: &mut Vec<Atom>,
+    var: VarId,
+    last: Option<i64>,
+    upper: Option<i64>,
+) -> Result<(), Memory>
     requires { ForSome upper IsSmall }
     ensures { OnOk result (atoms.new.items ≡ atoms.old.items ++ bound_atom (at_most var) (is_less upper last) upper) }
 {

@@ -11,7 +11,12 @@ use std::alloc::Global;
 /// The explanation of any part, found by its test: the description of the state `now` beyond the
 /// initial one, with each atom dropped in turn where those kept and those to come suffice without it.
 /// Each test copies the initial state.
-pub fn search_explanation<R: Test>(rule: &R, initial: &State, now: &State, target: Option<Atom>) -> Result<Vec<Atom>, Memory>
+pub fn search_explanation<R: Test>(
+    rule: &R,
+    initial: &State,
+    now: &State,
+    target: Option<Atom>,
+) -> Result<Vec<Atom>, Memory>
     requires covers { Covers (R.face rule.now).scope now.now }
     requires alive { is_dead now.now ≡ false }
     requires within { IsWithin now.now initial.now }
@@ -37,7 +42,12 @@ fn scope_of<R: Test>(rule: &R, alloc: Global) -> Result<Vec<VarId>, Memory>
 }
 
 /// The atoms without which the others do not suffice, from the first on.
-fn needed<R: Test>(rule: &R, initial: &State, target: &Option<Atom>, atoms: &[Atom]) -> Result<Vec<Atom>, Memory>
+fn needed<R: Test>(
+    rule: &R,
+    initial: &State,
+    target: &Option<Atom>,
+    atoms: &[Atom],
+) -> Result<Vec<Atom>, Memory>
     requires covers { Covers (R.face rule.now).scope initial.now }
     requires atoms { AreOf initial.now atoms.now }
     requires target { AreOf initial.now (failing target.now) }
@@ -52,7 +62,14 @@ fn needed<R: Test>(rule: &R, initial: &State, target: &Option<Atom>, atoms: &[At
 }
 
 /// Keeps the atom where those kept and those to come do not suffice without it.
-fn keep_needed<R: Test>(rule: &R, initial: &State, target: &Option<Atom>, kept: &mut Vec<Atom>, atom: Atom, rest: &[Atom]) -> Result<(), Memory>
+fn keep_needed<R: Test>(
+    rule: &R,
+    initial: &State,
+    target: &Option<Atom>,
+    kept: &mut Vec<Atom>,
+    atom: Atom,
+    rest: &[Atom],
+) -> Result<(), Memory>
     requires covers { Covers (R.face rule.now).scope initial.now }
     requires kept { AreOf initial.now kept.old.items }
     requires rest { AreOf initial.now rest.now }
@@ -67,7 +84,13 @@ fn keep_needed<R: Test>(rule: &R, initial: &State, target: &Option<Atom>, kept: 
 }
 
 /// Whether the part clashes at the state with these atoms where the target fails.
-fn suffices<R: Test>(rule: &R, initial: &State, target: &Option<Atom>, kept: &[Atom], rest: &[Atom]) -> Result<bool, Memory>
+fn suffices<R: Test>(
+    rule: &R,
+    initial: &State,
+    target: &Option<Atom>,
+    kept: &[Atom],
+    rest: &[Atom],
+) -> Result<bool, Memory>
     requires covers { Covers (R.face rule.now).scope initial.now }
     requires kept { AreOf initial.now kept.now }
     requires rest { AreOf initial.now rest.now }

@@ -65,7 +65,12 @@ pub trait Rule: Test {
 
     /// Why it clashes at the state `now` where the target fails, or at `now` itself where there is no
     /// target: atoms that hold at `now` and suffice at the initial state, of which none can be left out.
-    fn explain(&self, initial: &State, now: &State, target: Option<Atom>) -> Result<Vec<Atom>, Memory>
+    fn explain(
+        &self,
+        initial: &State,
+        now: &State,
+        target: Option<Atom>,
+    ) -> Result<Vec<Atom>, Memory>
         requires covers { Covers (Self.face self.now).scope now.now }
         requires alive { is_dead now.now ≡ false }
         requires within { IsWithin now.now initial.now }

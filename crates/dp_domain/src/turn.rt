@@ -11,7 +11,11 @@ use std::sync::ledger::Ledger;
 
 /// The turn of any part at a nonempty state, found by its test. It ticks once, also where it answers
 /// `Memory`. It tries each value of each variable of the scope, with a copy of the state for each.
-pub fn search_turn<R: Test, L: Ledger>(rule: &R, state: &State, steps: &mut Steps<L>) -> Result<Option<Found>, Memory>
+pub fn search_turn<R: Test, L: Ledger>(
+    rule: &R,
+    state: &State,
+    steps: &mut Steps<L>,
+) -> Result<Option<Found>, Memory>
     requires covers { Covers (R.face rule.now).scope state.now }
     requires alive { is_dead state.now ≡ false }
     ensures turn { IfOk result (λ turn. turn ≡ turn_of (R.face rule.now) state.now) }

@@ -191,6 +191,7 @@ differs_deciding q d s alive fixes =
 
 -- the values that it may take out are those of the variables of its scope
 pub differs_points : (q : Linear) (x : ℕ) (v : ℤ) → (face_differs q).point x v ≡ true ↔ Among x (scope_of q)
-differs_points q x v =
-    (λ e. let r = list_any-some (λ y. x == y) (scope_of q) e in subst (λ y. Among y (scope_of q)) (sym ((Decides-eqb x r.0).0 r.2)) r.1,
-      λ here. list_any-at (λ y. x == y) (scope_of q) x here ((Decides-eqb x x).1 refl))
+differs_points q x v = (
+  λ e. let r = list_any-some (λ y. x == y) (scope_of q) e in subst (λ y. Among y (scope_of q)) (sym ((Decides-eqb x r.0).0 r.2)) r.1,
+  λ here. list_any-at (λ y. x == y) (scope_of q) x here ((Decides-eqb x x).1 refl),
+)

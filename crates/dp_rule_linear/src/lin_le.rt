@@ -98,11 +98,20 @@ impl Test for LinLe {
 }
 
 impl Rule for LinLe {
-    fn next<L: Ledger>(&self, state: &State, steps: &mut Steps<L>) -> Result<Option<Found>, Memory> {
+    fn next<L: Ledger>(
+        &self,
+        state: &State,
+        steps: &mut Steps<L>,
+    ) -> Result<Option<Found>, Memory> {
         search_turn(self, state, steps)
     }
 
-    fn explain(&self, initial: &State, now: &State, target: Option<Atom>) -> Result<Vec<Atom>, Memory> {
+    fn explain(
+        &self,
+        initial: &State,
+        now: &State,
+        target: Option<Atom>,
+    ) -> Result<Vec<Atom>, Memory> {
         search_explanation(self, initial, now, target)
     }
 }

@@ -7,5 +7,5 @@ use Rattle.dp_domain.proofs.description.describe.Given as goal
 abbrev pub invariant-loop-var : goal.invariant-loop-var
 invariant-loop-var l = record {
   atoms : l.atoms.items ≡ description l.fn.initial l.now (take l.var-index l.scope);
-  sets : AreSets l.fn.initial l.now (take l.var-index l.scope)
+  sets : AreSets l.fn.initial l.now (take l.var-index l.scope);
 }

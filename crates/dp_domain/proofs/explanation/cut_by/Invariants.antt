@@ -6,5 +6,5 @@ use Rattle.dp_domain.proofs.explanation.cut_by.Given as goal
 abbrev pub invariant-loop-atom : goal.invariant-loop-atom
 invariant-loop-atom l = record {
   cuts : cut_all l.state (drop l.atom-index l.atoms) ≡ cut_all l.initial.state l.atoms;
-  count : length l.state ≡ length l.initial.state
+  count : length l.state ≡ length l.initial.state;
 }

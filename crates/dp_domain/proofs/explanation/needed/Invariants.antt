@@ -7,5 +7,5 @@ use Rattle.dp_domain.proofs.explanation.needed.Given as goal
 abbrev pub invariant-loop-place : goal.invariant-loop-place
 invariant-loop-place g l = record {
   same : needed (g.R.Test.face l.rule) l.fn.initial l.target l.kept.items (drop l.place l.atoms) ≡ needed (g.R.Test.face l.rule) l.fn.initial l.target [] l.atoms;
-  of_state : AreOf l.fn.initial l.kept.items
+  of_state : AreOf l.fn.initial l.kept.items;
 }
