@@ -1,0 +1,10 @@
+// Nogoods and restrictions as rules: atoms that do not all hold, and a variable that lies in a set.
+#![tactic(auto)]
+
+mod atoms;
+mod nogood;
+mod within;
+
+pub use dp_domain::{Atom, Dom, Memory, Rule, State, VarId};
+pub use nogood::Nogood;
+pub use within::{BadCondition, Within};
