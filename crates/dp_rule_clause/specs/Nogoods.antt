@@ -23,7 +23,7 @@ same_atom a b = (a.var == b.var) && (same_op a.op b.op && (int_le a.value b.valu
 
 -- whether the atom is one of these
 abbrev pub has_atom : List Atomic → Atomic → Bool
-has_atom atoms a = list_any (same_atom a) atoms
+has_atom atoms a = list_any (λ b. same_atom b a) atoms
 
 -- the atoms in order, each once, at the first of its places
 abbrev pub each_once : List Atomic → List Atomic

@@ -3,7 +3,7 @@
 ghost use Rattle.std.specs.Prelude.{◌≡◌, ◌<◌, ◌≤◌, IfOk, IsOk, length};
 ghost use Rattle.dp_base.specs.Lists.{Each};
 ghost use Rattle.dp_domain.specs.States.{entails_all};
-ghost use Rattle.dp_rule_clause.specs.Nogoods.{each_once, has_atom, scope_of, variables};
+ghost use Rattle.dp_rule_clause.specs.Nogoods.{each_once, has_atom, same_atom, scope_of, variables};
 
 use crate::{Atom, Memory, State, VarId};
 use smallvec::SmallVec;
@@ -55,7 +55,14 @@ fn each_once_of_many(alloc: Global, atoms: &[Atom]) -> Result<SmallVec<Atom, 4>,
 pub fn has_atom(atoms: &[Atom], atom: Atom) -> bool
     ensures { result ≡ has_atom atoms.now atom }
 {
-    atoms.iter().any(|other| atom == *other)
+    atoms.iter().any(|other| is_same(*other, atom))
+}
+
+/// Whether the atoms are one.
+fn is_same(atom: Atom, other: Atom) -> bool
+    ensures { result ≡ same_atom atom other }
+{
+    atom == other
 }
 
 /// The variables of the atoms, each once, in order of declaration. It takes no memory for at most
@@ -72,7 +79,7 @@ pub fn scope(alloc: Global, atoms: &[Atom]) -> Result<SmallVec<VarId, 4>, Memory
 
 /// The variable of each atom.
 fn variables(alloc: Global, atoms: &[Atom]) -> Result<SmallVec<VarId, 4>, Memory>
-    ensures variables { IfOk result (λ variables. variables.items ≡ variables atoms.now) }
+    ensures variables { IfOk result (λ list. list.items ≡ variables atoms.now) }
     ensures few { length atoms.now ≤ 4 → IsOk result }
 {
     let mut variables = SmallVec::with_capacity(alloc, atoms.len())?;
