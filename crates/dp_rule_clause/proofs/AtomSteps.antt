@@ -1,5 +1,5 @@
 -- Atoms that are kept once, one atom on.
-use Rattle.std.proofs.Common.{◌≡◌, ℕ, ◌+◌, ◌<◌, ◌≤◌, Bool, true, false, cond, not, ◌&&◌, ◌||◌, ◌==◌, ◌⊎◌, List, [], ◌∷◌, ◌++◌, length, get_or, take, min, ℤ, int_le, refl, sym, ◌∙◌, ap, subst, inl, inr, arith}
+use Rattle.std.proofs.Common.{◌≡◌, ℕ, ◌+◌, ◌<◌, ◌≤◌, Bool, true, false, cond, not, ◌&&◌, ◌||◌, ◌==◌, ◌⊎◌, ◌↔◌, List, [], ◌∷◌, ◌++◌, length, get_or, take, min, ℤ, int_le, refl, sym, ◌∙◌, ap, subst, inl, inr, arith}
 use Rattle.std.specs.List.{filter, list_any, list_all}
 use Rattle.std.proofs.lemmas.Bool.{cases_Bool, false≢true, both_ways, and_parts, and_from, false_from_ne_true, not_from_true, not_from_false, or_cases, or_parts, or_left, or_right, or_from}
 use Rattle.std.proofs.lemmas.Bool.Decides.{Decides-eqb}
@@ -16,7 +16,7 @@ use Rattle.dp_domain.specs.States.{Domains}
 use Rattle.dp_domain.proofs.AtomLaws.{same-from_tests, tests-from_same}
 use Rattle.dp_base.proofs.Lists.{Each-among}
 use Rattle.dp_rule_clause.specs.NogoodLaws.{atom_in_scope}
-use Rattle.dp_rule_clause.specs.Nogoods.{each_once, has_atom, same_atom, same_op, scope_of}
+use Rattle.dp_rule_clause.specs.Nogoods.{IsOnce, each_once, has_atom, same_atom, same_op, scope_of}
 
 -- ---- equal atoms
 
@@ -93,6 +93,26 @@ pub has-once : (xs : List Atomic) (a : Atomic) → has_atom (each_once xs) a ≡
 has-once xs a = same_bits (has_atom (each_once xs) a) (has_atom xs a)
     (λ e. has-among xs a (among_once xs a (among-has (each_once xs) a e)))
     (λ e. has-among (each_once xs) a (once_among xs a (among-has xs a e)))
+
+once_filter : (p : Atomic → Bool) (xs : List Atomic) → IsOnce xs → IsOnce (filter p xs)
+once_filter p [] once = tt
+once_filter p (x ∷ xs) once = once_filter_step p x xs (p x) once.0 (once_filter p xs once.1)
+  where
+    once_filter_step : (p : Atomic → Bool) (x : Atomic) (xs : List Atomic) (t : Bool) → ¬ (Among x xs) → IsOnce (filter p xs) → IsOnce (cond t (x ∷ filter p xs) (filter p xs))
+    once_filter_step p x xs true new once = (λ h. new (Among-filter_only p xs x h).0, once)
+    once_filter_step p x xs false new once = once
+
+-- each is kept once
+pub once_each : (xs : List Atomic) → IsOnce (each_once xs)
+once_each [] = tt
+once_each (x ∷ xs) = (
+  λ h. both_ways (not (same_atom x x)) (not_from_true (same_atom x x) (same_itself x)) (Among-filter_only (λ b. not (same_atom x b)) (each_once xs) x h).1,
+  once_filter (λ b. not (same_atom x b)) (each_once xs) (once_each xs),
+)
+
+-- and no atom is lost or added
+pub once_same : (xs : List Atomic) (a : Atomic) → Among a (each_once xs) ↔ Among a xs
+once_same xs a = (among_once xs a, once_among xs a)
 
 -- ---- one atom more
 

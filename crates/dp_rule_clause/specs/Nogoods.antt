@@ -30,6 +30,11 @@ abbrev pub each_once : List Atomic → List Atomic
 each_once [] = []
 each_once (a ∷ atoms) = a ∷ filter (λ b. not (same_atom a b)) (each_once atoms)
 
+-- no atom stands twice
+abbrev pub IsOnce : List Atomic → Type 0
+IsOnce [] = Unit {0}
+IsOnce (a ∷ atoms) = (¬ (Among a atoms)) × IsOnce atoms
+
 -- the variables of the atoms
 abbrev pub variables : List Atomic → List ℕ
 variables atoms = map (λ a. a.var) atoms

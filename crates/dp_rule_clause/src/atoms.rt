@@ -2,10 +2,12 @@
 
 ghost use Rattle.std.specs.Prelude.{◌≡◌, ◌<◌, ◌≤◌, IfOk, IsOk, length};
 ghost use Rattle.dp_base.specs.Lists.{Each};
+ghost use Rattle.dp_domain.specs.declared.atom.Op.TheVariants.{Eq};
 ghost use Rattle.dp_domain.specs.States.{entails_all};
-ghost use Rattle.dp_rule_clause.specs.Nogoods.{each_once, has_atom, same_atom, scope_of, variables};
+ghost use Rattle.dp_rule_clause.specs.Nogoods.{each_once, has_atom, point_nogood, same_atom, scope_of, variables};
 
 use crate::{Atom, Memory, State, VarId};
+use dp_domain::Op;
 use smallvec::SmallVec;
 use std::alloc::Global;
 use std::collections::BTreeSet;
@@ -52,10 +54,24 @@ fn each_once_of_many(alloc: Global, atoms: &[Atom]) -> Result<SmallVec<Atom, 4>,
 }
 
 /// Whether the atom is one of these.
-pub fn has_atom(atoms: &[Atom], atom: Atom) -> bool
+fn has_atom(atoms: &[Atom], atom: Atom) -> bool
     ensures { result ≡ has_atom atoms.now atom }
 {
     atoms.iter().any(|other| is_same(*other, atom))
+}
+
+/// Whether `[var == value]` is one of the atoms.
+pub fn has_equation(atoms: &[Atom], var: VarId, value: i64) -> bool
+    ensures { result ≡ point_nogood atoms.now var value }
+{
+    atoms.iter().any(|atom| is_equation(*atom, var, value))
+}
+
+/// Whether the atom is `[var == value]`.
+fn is_equation(atom: Atom, var: VarId, value: i64) -> bool
+    ensures { result ≡ same_atom atom (record { var = var; op = Eq; value = value }) }
+{
+    atom.var() == var && atom.op() == Op::Eq && atom.value() == value
 }
 
 /// Whether the atoms are one.

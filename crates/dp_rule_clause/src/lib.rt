@@ -8,3 +8,6 @@ mod within;
 pub use dp_domain::{Atom, Dom, Memory, Rule, State, VarId};
 pub use nogood::Nogood;
 pub use within::{BadCondition, Within};
+
+#[cfg(test)]
+mod tests;

@@ -1,8 +1,10 @@
 // Atoms that do not all hold.
 
-ghost use Rattle.std.specs.Prelude.{◌≡◌, ◌≤◌, IfOk, IsOk, length};
+ghost use Rattle.std.specs.Prelude.{◌≡◌, ◌≤◌, ◌↔◌, IfOk, IsOk, length};
+ghost use Rattle.dp_base.specs.Lists.{Among};
+ghost use Rattle.dp_domain.specs.Atoms.{Atomic};
 ghost use Rattle.dp_rule_clause.specs.NogoodLaws.{nogood_deciding, nogood_exact, nogood_lawful, nogood_sound};
-ghost use Rattle.dp_rule_clause.specs.Nogoods.{ClashesNogood, MeetsNogood, each_once, face_nogood};
+ghost use Rattle.dp_rule_clause.specs.Nogoods.{ClashesNogood, IsOnce, MeetsNogood, each_once, face_nogood};
 
 use crate::{Atom, Memory, Rule, State, VarId, atoms};
 use smallvec::SmallVec;
@@ -33,6 +35,8 @@ impl Nogood {
     /// at most four.
     pub fn new(alloc: Global, atoms: &[Atom]) -> Result<Nogood, Memory>
         ensures atoms { IfOk result (λ q. q ≡ each_once atoms.now) }
+        ensures once { IfOk result IsOnce }
+        ensures same { IfOk result (λ q. (a : Atomic) → Among a q ↔ Among a atoms.now) }
         ensures few { length atoms.now ≤ 4 → IsOk result }
     {
         let atoms = atoms::each_once(alloc, atoms)?;
@@ -45,6 +49,14 @@ impl Nogood {
         ensures { result.now ≡ self.now }
     {
         self.atoms.as_slice()
+    }
+
+    /// Whether it may take the value out of the variable singly, where both bounds stay: where `==` of
+    /// them is one of its atoms.
+    pub fn is_point(&self, var: VarId, value: i64) -> bool
+        ensures { result ≡ (face_nogood self.now).point var value }
+    {
+        atoms::has_equation(self.atoms.as_slice(), var, value)
     }
 }
 

@@ -9,7 +9,7 @@ pub push_reserved-requires : goal.push_reserved-requires
 push_reserved-requires c = (
   omega arith,
   let k = length-kept c.args.atoms.now c.loop-atom.atom-index 4 c.loop-atom.kept.items c.loop-atom-test.true c.requires c.loop-atom.invariant.0 in
-  omega (arith, k, c.loop-atom.invariant.1),
+      omega (arith, k, c.loop-atom.invariant.1),
 )
 
 pub loop-atom-preserved : goal.loop-atom-preserved
