@@ -1,5 +1,5 @@
 -- What is known speaks of the problem's variables alone, and holds of it: line by line.
-use Rattle.std.proofs.Common.{◌≡◌, ℕ, ◌<◌, Bool, true, false, Option, Some, None, List, [], ◌∷◌, ◌++◌, length, map, ℤ, pos, negsuc, ◌+◌, nat_eq, cond, refl, sym, ◌∙◌, ap, subst}
+use Rattle.std.proofs.Common.{◌≡◌, ℕ, ◌<◌, Bool, true, false, Option, Some, None, List, [], ◌∷◌, length, map, ℤ, pos, negsuc, ◌+◌, cond}
 use Rattle.std.specs.Prelude.{IfSome}
 use Rattle.std.specs.Option.{option_map}
 use Rattle.std.specs.Map.{lookup}
@@ -15,7 +15,7 @@ use Rattle.dp_parts.specs.Problems.{Csp, IsProblem, posed}
 use Rattle.dp_parts.specs.ProblemLaws.{soundly_posed}
 use Rattle.dp_checker.specs.Judged.{after, against, first_refusal, inference_denial, with_atom}
 use Rattle.dp_checker.specs.Kept.{AreBelow, IsKept}
-use Rattle.dp_checker.specs.Known.{Known, cons_some, denials, found, literal_atom, literal_atoms}
+use Rattle.dp_checker.specs.Known.{Known, cons_some, found, literal_atom, literal_atoms}
 use Rattle.dp_checker.specs.SoundnessLaws.{backed_after, found_each}
 
 negated_below : (n : ℕ) (o : Option Atomic) → IfSome o (λ a. a.var < n) → IfSome (option_map negated o) (λ a. a.var < n)

@@ -1,15 +1,15 @@
 -- What a hint takes away: values of the one variable on which it still has an open atom.
-use Rattle.std.proofs.Common.{◌≡◌, ℕ, zero, suc, ◌+◌, ◌<◌, Bool, true, false, not, ◌&&◌, ◌||◌, ◌⊎◌, List, [], ◌∷◌, length, get_or, set, ℤ, eqb, cond, refl, sym, ◌∙◌, ap, subst, inl, inr, arith}
-use Rattle.std.specs.List.{filter, list_any, list_all}
-use Rattle.std.proofs.lemmas.Bool.{both_ways, cases_Bool, cases_eq, eqb-true, eq-eqb, false_from_ne_true, not_from_false, not_from_true, and_from, and_parts, or_cases, or_parts}
+use Rattle.std.proofs.Common.{◌≡◌, ℕ, ◌<◌, Bool, true, false, not, ◌&&◌, ◌||◌, List, [], ◌∷◌, length, ℤ, eqb, cond, refl, sym, ◌∙◌, ap, subst, inl, inr}
+use Rattle.std.specs.List.{filter, list_all}
+use Rattle.std.proofs.lemmas.Bool.{both_ways, cases_eq, eqb-true, eq-eqb, false_from_ne_true, not_from_false, not_from_true, and_from, and_parts, or_cases, or_parts}
 use Rattle.std.proofs.lemmas.List.{length-set, get_or-set_same, get_or-set_other, get_or_default, same_lists}
-use Rattle.dp_base.specs.Lists.{Among, Each}
+use Rattle.dp_base.specs.Lists.{Among}
 use Rattle.dp_base.proofs.Lists.{filter-whole, list_all-at, list_all-from, list_all-fails, list_all-not, list_any-at, list_any-not}
 use Rattle.dp_domain.specs.Atoms.{Atomic, meets}
-use Rattle.dp_domain.specs.States.{Domains, values, cut, entails, entails_all, is_dead, fails_one, refuted}
+use Rattle.dp_domain.specs.States.{Domains, values, cut, entails, entails_all, fails_one, refuted}
 use Rattle.dp_domain.proofs.AtomLaws.{meets-eq}
 use Rattle.dp_domain.proofs.StateLaws.{Among-cut_all, Among-cut_meets, values-cut_other, entails-at, entails-from}
-use Rattle.dp_checker.specs.Rules.{cut_hint, «is», keep_where, proves}
+use Rattle.dp_checker.specs.Rules.{cut_hint, «is»}
 use Rattle.dp_checker.specs.SoundnessLaws.{length-keep_where, values-keep_where}
 
 -- the state with one value of the variable entails an atom on another where the state does

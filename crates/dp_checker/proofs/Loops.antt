@@ -1,6 +1,5 @@
 -- Steps of the checker's loops, and what its calls need.
-use Rattle.std.proofs.Common.{◌≡◌, ℕ, zero, suc, ◌+◌, ◌<◌, Bool, true, false, ◌||◌, Option, Some, None, List, [], ◌∷◌, ◌++◌, length, get_or, drop, ℤ, is_some, if◌then◌else◌, refl, sym, ◌∙◌, ap, subst, add-one, eqb}
-use Rattle.std.specs.Prelude.{IfSome}
+use Rattle.std.proofs.Common.{◌≡◌, ℕ, ◌+◌, ◌<◌, Bool, true, false, ◌||◌, Option, Some, None, List, [], ◌∷◌, ◌++◌, length, get_or, drop, ℤ, is_some, if◌then◌else◌, refl, sym, ◌∙◌, ap, subst, add-one, eqb}
 use Rattle.std.specs.List.{list_any, list_all}
 use Rattle.std.specs.Map.{values_of}
 use Rattle.std.proofs.Math.Seq.{drop-cons}

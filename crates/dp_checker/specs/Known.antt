@@ -1,5 +1,5 @@
 -- What the lines of a log have made known so far.
-use Rattle.std.specs.Prelude.{◌≡◌, ℕ, Bool, true, false, Option, Some, None, List, [], ◌∷◌, ◌++◌, if◌then◌else◌, nat_eq, ℤ, pos, negsuc, ◌+◌, is_some}
+use Rattle.std.specs.Prelude.{ℕ, Option, Some, None, List, [], ◌∷◌, if◌then◌else◌, nat_eq, ℤ, pos, negsuc, ◌+◌, is_some}
 use Rattle.std.specs.Map.{lookup}
 use Rattle.std.specs.Option.{option_map}
 use Rattle.dp_domain.specs.Atoms.{Atomic, negated}

@@ -1,10 +1,10 @@
 -- The three rules by which a log's steps and its conclusion hold.
-use Rattle.std.specs.Prelude.{◌≡◌, ℕ, ◌+◌, Bool, true, false, not, ◌&&◌, ◌||◌, Option, Some, None, List, [], ◌∷◌, ◌++◌, filter, ℤ}
+use Rattle.std.specs.Prelude.{ℕ, ◌+◌, Bool, true, not, ◌&&◌, ◌||◌, Option, Some, None, List, [], ◌∷◌, filter, ℤ}
 use Rattle.std.specs.List.{list_any}
 use Rattle.std.specs.Str.{bytes_eq}
 use Rattle.dp_domain.specs.Atoms.{Atomic}
 use Rattle.dp_domain.specs.declared.atom.Op.TheVariants.{Eq}
-use Rattle.dp_domain.specs.States.{Domains, cut, cut_all, entails_all, is_dead}
+use Rattle.dp_domain.specs.States.{Domains, cut, entails_all, is_dead}
 use Rattle.dp_parts.specs.Posed.{Labelled}
 
 -- whether a label is not given, or is the part's

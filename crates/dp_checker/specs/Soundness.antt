@@ -1,5 +1,5 @@
 -- What an accepted log proves: each step denies its atoms together, and the conclusion holds.
-use Rattle.std.specs.Prelude.{◌≡◌, ℕ, true, Option, Some, None, List, ℤ, IfSome}
+use Rattle.std.specs.Prelude.{◌≡◌, ℕ, true, List, ℤ, IfSome}
 use Rattle.dp_base.specs.Lists.{Each}
 use Rattle.dp_domain.specs.Atoms.{Atomic, meets}
 use Rattle.dp_domain.specs.declared.verdict.Verdict.{Verdict}

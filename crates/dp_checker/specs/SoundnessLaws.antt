@@ -1,9 +1,9 @@
 -- The law of accepted logs: all that they make known holds of the problem.
-use Rattle.std.specs.Prelude.{◌≡◌, ℕ, zero, suc, ◌+◌, ◌-◌, ◌<◌, Bool, true, false, not, ◌&&◌, ◌||◌, Option, Some, None, Result, Ok, Err, IfSome, is_none, if◌then◌else◌, List, [], ◌∷◌, ◌++◌, length, map, filter, ℤ, slice_index_or, nat_eq}
+use Rattle.std.specs.Prelude.{◌≡◌, ℕ, zero, suc, ◌+◌, ◌-◌, ◌<◌, Bool, true, false, not, ◌&&◌, ◌||◌, Option, Some, None, Result, Ok, Err, IfSome, is_none, if◌then◌else◌, List, [], ◌∷◌, length, map, filter, ℤ, slice_index_or, nat_eq}
 use Rattle.std.specs.List.{list_all, list_any}
 use Rattle.std.specs.Option.{option_map}
 use Rattle.std.specs.Str.{bytes_eq}
-use Rattle.std.proofs.Common.{refl, sym, ◌∙◌, ap, subst, inl, inr, get_or, add-one}
+use Rattle.std.proofs.Common.{refl, sym, ◌∙◌, ap, subst, inl, inr, add-one}
 use Rattle.std.proofs.lemmas.Bool.{both_ways, cases_Bool, cases_lt, or_cases, and_parts, not_from_false, false_from_ne_true}
 use Rattle.dp_base.specs.Lists.{Among, Each}
 use Rattle.dp_base.proofs.Lists.{Each-among, Each-append, Each-from_among, Among-filter_all, list_all-at, list_any-some}
@@ -13,7 +13,7 @@ use Rattle.dp_domain.specs.Faces.{Covers}
 use Rattle.dp_domain.proofs.AtomLaws.{meets-eq, meets-from_not}
 use Rattle.dp_domain.proofs.StateLaws.{LiesIn-alive, LiesIn-cut, LiesIn-entails, cut-past, length-cut, length-cut_all}
 use Rattle.dp_domain.specs.declared.atom.Op.{Op}
-use Rattle.dp_domain.specs.declared.verdict.Verdict.TheVariants.{Unsat as NoSolution, Bound as NoBetter}
+use Rattle.dp_domain.specs.declared.verdict.Verdict.TheVariants.{Bound as NoBetter}
 use Rattle.dp_lines.specs.declared.line.Line.{Line}
 use Rattle.dp_lines.specs.declared.line.Line.TheVariants.{Atom, Inference, Nogood, Delete, Conclude}
 use Rattle.dp_lines.specs.declared.line.Claim.{Claim}
@@ -23,7 +23,7 @@ use Rattle.dp_base.specs.Names.{named}
 use Rattle.dp_checker.specs.declared.refusal.StepRefusal.{StepRefusal}
 use Rattle.dp_checker.specs.declared.refusal.Why.{Why}
 use Rattle.dp_checker.specs.declared.refusal.Why.TheVariants.{AfterConclusion, NoClash, NoGoal, NotConcluded, NotImplied, StepTwice, UnknownAtom, UnknownConstraint, UnknownStep, WrongBound, WrongLabel}
-use Rattle.dp_checker.specs.Judged.{after, against, concluded, conclusion_refusal, first_refusal, grounds, has_goal, inference_denial, inference_refusal, initial_domain, is_bound, is_constraint, is_fitting, judge, judge_all, line_refusal, naming, nogood_refusal, or_else, outcome, parts_of, unless, with_atom, with_last, with_step}
+use Rattle.dp_checker.specs.Judged.{after, against, concluded, conclusion_refusal, first_refusal, grounds, has_goal, inference_denial, initial_domain, is_bound, is_constraint, is_fitting, judge_all, line_refusal, naming, or_else, outcome, parts_of, unless, with_atom, with_last, with_step}
 use Rattle.dp_checker.specs.Kept.{DeniesBelow, IsBacked, MeetsBelow}
 use Rattle.dp_checker.specs.Known.{Known, cons_some, denials, first_undefined, first_unknown, found, literal_atom, literal_atoms, nothing}
 use Rattle.dp_checker.specs.Rules.{concludes, cut_hint, implies, «is», is_labelled, keep_where, proves}

@@ -17,7 +17,7 @@ use crate::facts::{Denial, Facts};
 use crate::fault::Fault;
 use crate::literals::{first_undefined_of, inference_denial};
 use crate::start::start_state;
-use dp_domain::{Memory, Name, Rule, State};
+use dp_domain::{Memory, Name, State, Test};
 use dp_parts::{Part, Problem};
 
 /// The denial of an inference that holds, or the first test that it fails.

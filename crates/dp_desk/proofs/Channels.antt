@@ -1,11 +1,6 @@
 -- How what calls do to a channel adds up.
-<<<<<<< HEAD
-use Rattle.std.proofs.Common.{◌≡◌, ℕ, ◌+◌, List, [], ◌∷◌, ◌++◌, length, take, drop, refl, sym, ◌∙◌, ap, subst, append_assoc, Option, Some, None}
-use Rattle.std.proofs.lemmas.List.{append-nil}
-=======
 use Rattle.std.proofs.Common.{◌≡◌, ◌⊎◌, ◌≤◌, inl, inr, ℕ, List, [], ◌++◌, length, take, refl, sym, ◌∙◌, ap, subst, append_assoc, Option, Some, None}
 use Rattle.std.proofs.lemmas.List.{append-nil, take-append-le}
->>>>>>> 7adc60cf99b511c874da1f378dbdba0231367967
 use Rattle.std.proofs.Math.Seq.{take-append_seam}
 use Rattle.dp_desk.specs.Channel.{Channel, Shut, Hidden, Shown, Files, IsOpen, Opens, Shows, Starts, Takes, IsAtEnd, Grows, GrowsByPart}
 
@@ -149,8 +144,6 @@ takes_all a b left x is takes end =
     let t = takes_shown a b left x is takes in
     t.2 ∙ ap (λ r. x ++ r) (at_end_shown b t.0 t.1 end) ∙ append-nil x
 
-<<<<<<< HEAD
-=======
 -- an input that was read to its end, or to a bound, gave all that is left of it up to that bound
 pub takes_up_to : (a b : Channel) (left x : List ℕ) (bound : ℕ) → a ≡ Shown left → Takes a b x → IsAtEnd b ⊎ bound ≤ length x →
     take bound left ≡ take bound x
@@ -158,7 +151,6 @@ takes_up_to a b left x bound is takes (inl end) = ap (take bound) (takes_all a b
 takes_up_to a b left x bound is takes (inr enough) =
     let t = takes_shown a b left x is takes in ap (take bound) t.2 ∙ take-append-le bound x t.0 enough
 
->>>>>>> 7adc60cf99b511c874da1f378dbdba0231367967
 -- all of the bytes is a part of them
 pub grows_by_all : (a b : Channel) (x : List ℕ) → Grows a b x → GrowsByPart a b x
 grows_by_all a b x grows = record { front = x; rest = []; whole = sym (append-nil x); grows = grows }

@@ -2,8 +2,12 @@ pub mod AtomLaws
 pub mod BoundLaws
 pub mod IntervalLaws
 pub mod ConditionLaws
+pub mod ExplanationLaws
+pub mod ExplanationSteps
 pub mod ScopeLaws
 pub mod SetLaws
 pub mod SetSteps
 pub mod ShareLaws
 pub mod StateLaws
+pub mod TurnLaws
+pub mod TurnSteps

@@ -1,5 +1,5 @@
 -- Conditions: an atom that a part waits for, or none.
-use Rattle.std.specs.Prelude.{◌≡◌, ℕ, Bool, true, false, Option, Some, None, List, [], ◌∷◌, ℤ}
+use Rattle.std.specs.Prelude.{◌≡◌, ℕ, Bool, true, false, Option, Some, None, List, ◌∷◌, ℤ}
 use Rattle.dp_base.specs.Lists.{Among}
 use Rattle.dp_domain.specs.Atoms.{Atomic, meets}
 use Rattle.dp_domain.specs.States.{Domains, entails}

@@ -3,3 +3,5 @@ pub mod Sets
 pub mod States
 pub mod Faces
 pub mod Conditions
+pub mod Turns
+pub mod Explanations

@@ -2,7 +2,7 @@
 use Rattle.std.specs.Prelude.{◌≡◌, ℕ, ◌<◌, Bool, true, false, not, ◌&&◌, ◌==◌, List, [], ◌∷◌, length, get_or, slice_set, ℤ}
 use Rattle.std.specs.Prelude.{filter}
 use Rattle.std.specs.List.{list_any, list_all, sum_by}
-use Rattle.dp_base.specs.Lists.{Among}
+use Rattle.dp_base.specs.Lists.{Among, Each}
 use Rattle.dp_domain.specs.Atoms.{Atomic, meets}
 
 -- for each variable, in order of declaration, the values that it may take, in ascending order
@@ -42,6 +42,10 @@ cut_all d (a ∷ atoms) = cut_all (cut d a) atoms
 -- how many values there are in all
 abbrev pub total : Domains → ℕ
 total d = sum_by length d
+
+-- each atom is on a variable of the state
+abbrev pub AreOf : Domains → List Atomic → Type 0
+AreOf d atoms = Each (λ a. a.var < length d) atoms
 
 -- the assignment gives each variable one of its values
 abbrev pub LiesIn : (ℕ → ℤ) → Domains → Type 0

@@ -3,6 +3,7 @@
 ghost use Rattle.std.specs.Prelude.{◌≡◌, ◌↔◌, IsSome, IfSome, pos};
 ghost use Rattle.dp_domain.specs.declared.atom.Op.TheVariants.{Ge};
 ghost use Rattle.dp_domain.specs.Atoms.{Atomic, IsNameable, meets, negated, opposite};
+ghost use Rattle.dp_domain.specs.Sets.{IsSmall};
 
 use std::marker::Model;
 
@@ -96,6 +97,14 @@ impl Atom {
         } else {
             None
         }
+    }
+
+    /// The atom on a number within ±10^9.
+    pub(crate) fn small(var: VarId, op: Op, value: i64) -> Atom
+        requires { IsSmall value }
+        ensures { result ≡ record { var = var; op = op; value = value } }
+    {
+        Atom { var, op, value }
     }
 
     /// The atom that holds exactly where this one fails.

@@ -85,6 +85,14 @@ impl Dom {
         self.values.last().copied()
     }
 
+    /// Its numbers in ascending order.
+    pub(crate) fn values(&self) -> &[i64]
+        ensures values { result.now ≡ self.now }
+        ensures domain { IsDomain result.now }
+    {
+        self.values.as_slice()
+    }
+
     /// Whether the number is in the set.
     pub fn has(&self, number: i64) -> bool
         ensures { IsTrue result ↔ Among number self.now }

@@ -2,16 +2,25 @@
 #![tactic(auto)]
 
 mod atom;
+mod description;
 mod dom;
+mod explanation;
+mod found;
 mod rule;
 mod state;
+mod steps;
+mod turn;
 mod verdict;
 
 pub use atom::{Atom, Op, VarId};
 pub use dom::Dom;
 pub use dp_base::{Assignment, Memory, Name, Text};
-pub use rule::Rule;
+pub use explanation::search_explanation;
+pub use found::Found;
+pub use rule::{Rule, Test};
 pub use state::State;
+pub use steps::Steps;
+pub use turn::search_turn;
 pub use verdict::Verdict;
 
 #[cfg(test)]

@@ -1,11 +1,15 @@
 // States: what each variable may still be.
 
-ghost use Rattle.std.specs.Prelude.{◌≡◌, ℕ, ◌^◌, ◌<◌, ◌↔◌, not, length, IfOk, OnOk, OnErr, IsTrue};
+ghost use Rattle.std.specs.Prelude.{◌≡◌, ℕ, ◌^◌, ◌<◌, ◌↔◌, false, not, length, IfOk, OnOk, OnErr, IsTrue};
 ghost use Rattle.dp_base.specs.Lists.{Among};
 ghost use Rattle.dp_domain.specs.Sets.{IsDomain, greatest, least};
-ghost use Rattle.dp_domain.specs.States.{cut, entails, is_dead, refuted, values};
+ghost use Rattle.dp_domain.specs.States.{cut, entails, is_dead, refuted, values, IsWithin};
+ghost use Rattle.dp_domain.specs.Explanations.{Describes, description};
+ghost use Rattle.dp_domain.specs.Faces.{Covers};
 
+use crate::description::describe;
 use crate::{Atom, Dom, Memory, VarId};
+use std::alloc::Global;
 use std::marker::Model;
 
 /// A set of values for each variable, seen as the list of these sets.
@@ -120,6 +124,24 @@ impl State {
         let set = &mut self.sets[var.0 as usize];
         set.refute(var, atoms);
         Ok(())
+    }
+
+    /// What the state says of the variables beyond the initial state: for each in order, its lower bound
+    /// where it is above the initial one, its upper bound where it is below, and then as `!=` in ascending
+    /// order the initial values strictly between them that it lacks.
+    pub fn describe(&self, initial: &State, scope: &[VarId]) -> Result<Vec<Atom>, Memory>
+        requires covers { Covers scope.now self.now }
+        requires alive { is_dead self.now ≡ false }
+        requires within { IsWithin self.now initial.now }
+        ensures atoms { IfOk result (λ atoms. atoms.items ≡ description initial.now self.now scope.now) }
+        ensures meaning { IfOk result (λ atoms. Describes initial.now self.now scope.now atoms.items) }
+    {
+        describe(self, initial, scope)
+    }
+
+    /// The allocator that it grows by.
+    pub fn allocator(&self) -> Global {
+        *self.sets.allocator()
     }
 
     /// The variable's values.

@@ -1,5 +1,5 @@
 -- The numbers, names and labels that a line may have.
-use Rattle.std.specs.Prelude.{◌≡◌, ℕ, ◌^◌, ◌≤◌, true, Option, IfSome, List, [], ◌∷◌, Bool, false, ◌&&◌, ℤ, unsigned_abs}
+use Rattle.std.specs.Prelude.{◌≡◌, ℕ, ◌^◌, ◌≤◌, true, IfSome, List, [], ◌∷◌, Bool, false, ◌&&◌, ℤ, unsigned_abs}
 use Rattle.std.specs.List.{list_all}
 use Rattle.dp_base.specs.Lists.{Each}
 use Rattle.dp_base.specs.Names.{is_later, is_name}

@@ -1,6 +1,6 @@
 -- What everything above a problem sees of it: names, initial domains, tests and a goal.
 use Rattle.std.specs.Prelude.{◌≡◌, ℕ, ◌<◌, List, length, ℤ, false}
-use Rattle.dp_base.specs.Lists.{Among, Each}
+use Rattle.dp_base.specs.Lists.{Each}
 use Rattle.dp_domain.specs.States.{Domains, LiesIn}
 use Rattle.dp_domain.specs.Faces.{Face, Covers, IsLawful}
 use Rattle.dp_parts.specs.declared.goal.Goal.{Goal}

@@ -1,13 +1,11 @@
 -- A problem is soundly posed, and its solutions solve it as it is posed.
-use Rattle.std.specs.Prelude.{◌≡◌, ℕ, ◌<◌, List, [], ◌∷◌, length, map, ℤ}
+use Rattle.std.specs.Prelude.{ℕ, List, [], ◌∷◌, length, map, ℤ}
 use Rattle.dp_base.specs.Lists.{Each}
 use Rattle.dp_domain.specs.Faces.{Covers}
-use Rattle.dp_domain.specs.States.{LiesIn}
-use Rattle.dp_parts.specs.Parts.{MeetsPart, face_of, label_of}
+use Rattle.dp_parts.specs.Parts.{MeetsPart, face_of}
 use Rattle.dp_parts.specs.PartLaws.{part_lawful, part_sound}
-use Rattle.dp_parts.specs.Posed.{IsSoundPart, IsSoundlyPosed, Labelled, Passes, Solves}
+use Rattle.dp_parts.specs.Posed.{IsSoundPart, IsSoundlyPosed, Passes, Solves}
 use Rattle.dp_parts.specs.Problems.{Csp, IsProblem, IsSolution, labelled, posed}
-use Rattle.dp_parts.specs.declared.part.Part.{Part}
 
 -- a fact of each item of a list of lists gives one of each image
 each_image : {A B : Type 0} (P : A → Type 0) (Q : B → Type 0) (f : A → B) → ((x : A) → P x → Q (f x)) → (xs : List A) → Each P xs → Each Q (map f xs)

@@ -5,9 +5,10 @@ ghost use Rattle.dp_domain.specs.Faces.{Covers};
 ghost use Rattle.dp_parts.specs.Parts.{ClashesPart, MeetsPart, face_of, label_of};
 ghost use Rattle.dp_parts.specs.PartLaws.{part_deciding, part_exact, part_lawful, part_sound};
 
-use dp_domain::{Memory, Rule, State, VarId};
+use dp_domain::{Atom, Found, Memory, Rule, State, Steps, Test, VarId};
 use dp_rule_linear::LinLe;
 use std::marker::Model;
+use std::sync::ledger::Ledger;
 
 /// A part of a constraint.
 #[derive(Debug, Drop)]
@@ -15,7 +16,7 @@ pub enum Part {
     LinLe(LinLe),
 }
 
-impl Rule for Part {
+impl Test for Part {
     ghost face = { face_of };
 
     ghost clashes = { ClashesPart };
@@ -34,6 +35,12 @@ impl Rule for Part {
         }
     }
 
+    fn is_point(&self, var: VarId, value: i64) -> bool {
+        match self {
+            Part::LinLe(part) => part.is_point(var, value),
+        }
+    }
+
     fn clash(&self, state: &State) -> Result<bool, Memory> {
         match self {
             Part::LinLe(part) => part.clash(state),
@@ -47,6 +54,29 @@ impl Rule for Part {
     ghost sound = { part_sound };
 
     ghost deciding = { part_deciding };
+}
+
+impl Rule for Part {
+    fn next<L: Ledger>(
+        &self,
+        state: &State,
+        steps: &mut Steps<L>,
+    ) -> Result<Option<Found>, Memory> {
+        match self {
+            Part::LinLe(part) => part.next(state, steps),
+        }
+    }
+
+    fn explain(
+        &self,
+        initial: &State,
+        now: &State,
+        target: Option<Atom>,
+    ) -> Result<Vec<Atom>, Memory> {
+        match self {
+            Part::LinLe(part) => part.explain(initial, now, target),
+        }
+    }
 }
 
 /// The label of the part's kind, as logs name it.

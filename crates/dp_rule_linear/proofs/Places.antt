@@ -1,10 +1,11 @@
 -- Where the variables of a scope stand.
-use Rattle.std.proofs.Common.{◌≡◌, ℕ, zero, suc, ◌+◌, ◌-◌, ◌<◌, ◌≤◌, ◌⊎◌, List, [], ◌∷◌, Option, Some, None, length, get_or, map, ℤ, pos, refl, sym, ◌∙◌, ap, subst, inl, inr, arith}
-use Rattle.std.specs.List.{slice_get}
-use Rattle.std.proofs.lemmas.List.{get_or-map}
-use Rattle.std.proofs.lemmas.Option.{slice_get-get_or}
+use Rattle.std.proofs.Common.{◌≡◌, ℕ, zero, suc, ◌+◌, ◌-◌, ◌<◌, ◌≤◌, ◌==◌, true, false, ◌⊎◌, List, [], ◌∷◌, Some, None, length, get_or, ℤ, refl, sym, ◌∙◌, ap, subst, inl, inr, arith}
+use Rattle.std.specs.List.{slice_get, list_any}
+use Rattle.std.proofs.lemmas.Bool.{cases_eq, eq-eqb, ne_eqb}
+use Rattle.std.proofs.lemmas.List.{get_or-map, get_or_default}
+use Rattle.std.proofs.lemmas.Option.{slice_get-get_or, slice_get_within, get_or_from_slice_get}
 use Rattle.dp_base.specs.Lists.{Among, Each, Climbs}
-use Rattle.dp_base.proofs.Lists.{Among-get_or, Each-among, Each-from_among, Each-weaker}
+use Rattle.dp_base.proofs.Lists.{Among-get_or, Contains-from_among, list_any-at, list_any-not, Each-among, Each-from_among, Each-weaker}
 use Rattle.dp_domain.specs.Atoms.{Atomic}
 use Rattle.dp_domain.specs.Faces.{Covers}
 use Rattle.dp_domain.specs.States.{Domains}
@@ -13,7 +14,7 @@ use Rattle.dp_rule_linear.specs.FormLaws.{variable_in_scope}
 use Rattle.dp_domain.specs.Conditions.{IsApart, with_condition}
 use Rattle.dp_rule_linear.specs.Forms.{IsGoodAt, IsProper, Linear, scope_of, term_at, variables}
 use Rattle.dp_base.specs.Scopes.{in_order, with_variable}
-use Rattle.dp_base.proofs.ScopeLaws.{IsBefore, IsSame, in_order-climbing, order_of, with_variable-after, with_variable-before, with_variable-same}
+use Rattle.dp_base.proofs.ScopeLaws.{IsBefore, IsSame, in_order-climbing, order_of, with_variable-after, with_variable-before}
 
 -- ---- the variables of good terms
 
@@ -175,3 +176,23 @@ terms_covered q d covers = Each-from_among (λ x. x < length d) (variables q.ter
 pub each_from_places : (P : ℕ → Type 0) (xs : List ℕ) → ((k : ℕ) → k < length xs → P (get_or xs k 0)) → Each P xs
 each_from_places P [] f = tt
 each_from_places P (x ∷ xs) f = (f 0 (omega arith), each_from_places P xs (λ k h. f (suc k) (omega arith)))
+
+-- ---- a variable among the others
+
+-- the variable at a place is found
+pub has_here : (xs : List ℕ) (v i x : ℕ) → slice_get xs i ≡ Some x → x ≡ v → true ≡ list_any (λ y. v == y) xs
+has_here xs v i x e f =
+    let h : i < length xs = slice_get_within xs i x e in
+    let m : Among x xs = subst (λ y. Among y xs) (get_or_from_slice_get xs i x x e) (Among-get_or xs i x h) in
+    sym (list_any-at (λ y. v == y) xs x m (eq-eqb v x (sym f)))
+
+-- nor is it at one place more
+pub has_not_more : (xs : List ℕ) (v i x : ℕ) → slice_get xs i ≡ Some x → (x ≡ v → ⊥) → ((k : ℕ) → k < i → get_or xs k 0 ≡ v → ⊥) → (k : ℕ) → k < i + 1 → get_or xs k 0 ≡ v → ⊥
+has_not_more xs v i x e n h k l f = elim (cases_eq k i) [
+  | inl s ↦ n (sym (get_or_from_slice_get xs i x 0 e) ∙ ap (λ (j : ℕ). get_or xs j 0) (sym s) ∙ f)
+  | inr s ↦ h k (omega arith) f
+]
+
+-- a variable at no place is not found
+pub has_nowhere : (xs : List ℕ) (v : ℕ) → ((k : ℕ) → k < length xs → get_or xs k 0 ≡ v → ⊥) → false ≡ list_any (λ y. v == y) xs
+has_nowhere xs v h = sym (list_any-not (λ y. v == y) xs (λ x m. let c = Contains-from_among x xs m in ne_eqb v x (λ e. h c.0 c.1 (get_or_default xs c.0 0 x c.1 ∙ c.2 ∙ sym e))))

@@ -1,5 +1,5 @@
 -- A refusal is given for a cause.
-use Rattle.std.proofs.Common.{◌<◌, ◌≤◌, length, arith}
+use Rattle.std.proofs.Common.{◌≤◌, length, arith}
 use Rattle.dp_rule_linear.specs.Forms.{Linear, IsProper}
 use Rattle.dp_rule_linear.specs.Refusals.{IsRefused}
 use Rattle.dp_rule_linear.specs.declared.refusal.LinRefusal.{LinRefusal}

@@ -1,5 +1,5 @@
 -- What the loops over terms add up, and how large it grows.
-use Rattle.std.proofs.Common.{◌≡◌, ℕ, zero, suc, ◌+◌, ◌*◌, ◌^◌, ◌<◌, ◌≤◌, Bool, true, false, ◌⊎◌, List, [], ◌∷◌, Option, Some, None, length, get_or, take, drop, map, ℤ, pos, negsuc, ◌+ℤ◌, ◌*ℤ◌, ◌≤ℤ◌, ◌<ℤ◌, refl, sym, ◌∙◌, ap, subst, inl, inr, arith}
+use Rattle.std.proofs.Common.{◌≡◌, ℕ, suc, ◌+◌, ◌*◌, ◌^◌, ◌<◌, ◌≤◌, Bool, true, false, List, [], ◌∷◌, Option, Some, None, length, get_or, drop, ℤ, pos, negsuc, ◌+ℤ◌, ◌*ℤ◌, ◌≤ℤ◌, refl, sym, ◌∙◌, ap, subst, inl, inr, arith}
 use Rattle.std.specs.Prelude.{IfSome, nat_eq, unwrap_or, ◌&&◌, FitsSigned}
 use mir.Syntax.{w64, w128}
 use mir.Val.{of_z, to_z}
@@ -10,14 +10,14 @@ use Rattle.std.proofs.lemmas.Bool.Decides.{Decides-eqb, same_from_decides}
 use Rattle.std.proofs.lemmas.List.{drop_all, drop_more}
 use Rattle.std.proofs.Math.Nat.{mul-le-mul_left, mul-le-mul_right}
 use Rattle.dp_base.specs.Lists.{Among, Each}
-use Rattle.dp_base.proofs.Lists.{Among-get_or, Each-among, Each-from_among, list_all-at, list_all-from, list_all-not}
+use Rattle.dp_base.proofs.Lists.{Among-get_or, Each-among, list_all-from}
 use Rattle.dp_domain.specs.Sets.{IsDomain, IsSmall, greatest, least}
 use Rattle.dp_domain.specs.States.{Domains, values}
 use Rattle.dp_domain.proofs.SetLaws.{IsSmall-among, greatest-among, greatest-bound, least-among, least-bound}
-use Rattle.dp_rule_linear.specs.Differs.{are_single, is_same, is_single}
+use Rattle.dp_rule_linear.specs.Differs.{is_same, is_single}
 use Rattle.dp_rule_linear.specs.DiffersLaws.{first, is_same_where, only_first}
 use Rattle.dp_rule_linear.specs.FormLaws.{variable_of}
-use Rattle.dp_rule_linear.specs.Forms.{IsBounded, IsGoodAt, least_product, least_sum, total, variables}
+use Rattle.dp_rule_linear.specs.Forms.{IsBounded, least_product, least_sum, total, variables}
 use Rattle.dp_rule_linear.specs.IntLaws.{least-times, least-times_back}
 
 -- ---- terms at a place

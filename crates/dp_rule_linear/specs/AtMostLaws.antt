@@ -1,17 +1,17 @@
 -- The laws of a sum of at most a number.
-use Rattle.std.specs.Prelude.{◌≡◌, ℕ, ◌<◌, Bool, true, false, ◌&&◌, ◌||◌, ◌⊎◌, ◌↔◌, List, length, ℤ, ◌≤ℤ◌, ◌<ℤ◌, int_lt}
-use Rattle.std.proofs.Common.{refl, sym, ◌∙◌, ap, subst, inl, inr, arith}
+use Rattle.std.specs.Prelude.{◌≡◌, ℕ, ◌<◌, Bool, true, false, ◌&&◌, ◌||◌, ◌↔◌, length, ℤ, ◌≤ℤ◌, ◌<ℤ◌, int_lt}
+use Rattle.std.proofs.Common.{refl, sym, ◌∙◌, subst, inl, inr, arith}
 use Rattle.std.proofs.lemmas.Int.{ints}
 use Rattle.std.proofs.lemmas.Bool.{both_ways, false_from_ne_true}
-use Rattle.dp_base.specs.Lists.{Among, Each}
+use Rattle.dp_base.specs.Lists.{Among}
 use Rattle.dp_base.proofs.Lists.{Each-among}
-use Rattle.dp_domain.specs.Faces.{AgreesOn, Covers, Fixes, IsLawful}
-use Rattle.dp_domain.specs.States.{Domains, LiesIn, IsWithin, is_dead, values}
+use Rattle.dp_domain.specs.Faces.{Covers, Fixes, IsLawful}
+use Rattle.dp_domain.specs.States.{Domains, LiesIn, IsWithin, is_dead}
 use Rattle.dp_domain.proofs.StateLaws.{LiesIn-alive, dead-within}
 use Rattle.dp_rule_linear.specs.AtMost.{ClashesAtMost, MeetsAtMost, face_at_most, test_at_most}
 use Rattle.dp_domain.proofs.ConditionLaws.{in_force-fixed, in_force-from_fixed, in_force-local, in_force-sound, in_force-within, test_cases, test_dead, test_over}
 use Rattle.dp_rule_linear.specs.FormLaws.{least_sum-bound, least_sum-fixed, least_sum-local, least_sum-within, variable_in_scope}
-use Rattle.dp_domain.specs.Conditions.{Fails, in_force, with_condition}
+use Rattle.dp_domain.specs.Conditions.{in_force, with_condition}
 use Rattle.dp_rule_linear.specs.Forms.{Linear, least_sum, scope_of, sum_at, variables}
 use Rattle.dp_rule_linear.specs.IntLaws.{order_of}
 use Rattle.dp_base.proofs.ScopeLaws.{climbs_in_order}

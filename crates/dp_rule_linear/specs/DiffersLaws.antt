@@ -1,20 +1,19 @@
 -- The laws of a sum other than a number.
-use Rattle.std.specs.Prelude.{◌≡◌, ℕ, ◌<◌, Bool, true, false, ◌&&◌, ◌||◌, ◌⊎◌, ◌↔◌, ◌==◌, List, [], ◌∷◌, length, unwrap_or, map, ℤ, pos, ◌*ℤ◌, ◌≤ℤ◌, ◌<ℤ◌, int_le}
+use Rattle.std.specs.Prelude.{◌≡◌, ℕ, ◌<◌, Bool, true, false, ◌&&◌, ◌||◌, ◌↔◌, ◌==◌, List, [], ◌∷◌, length, ℤ, pos, ◌*ℤ◌, int_le}
 use Rattle.std.specs.List.{list_all}
 use Rattle.std.proofs.Common.{refl, sym, ◌∙◌, ap, subst, inl, inr, arith}
 use Rattle.std.proofs.lemmas.Int.{ints}
 use Rattle.std.proofs.lemmas.Bool.Decides.{Decides-eqb}
 use Rattle.std.proofs.lemmas.Bool.{false≢true, both_ways, false_from_ne_true}
-use Rattle.dp_base.specs.Lists.{Among, Each}
+use Rattle.dp_base.specs.Lists.{Among}
 use Rattle.dp_base.proofs.Lists.{Each-among, Each-from_among, list_all-at, list_all-from, list_any-at, list_any-some}
 use Rattle.dp_domain.specs.Faces.{AgreesOn, Covers, Fixes, IsLawful}
-use Rattle.dp_domain.specs.Sets.{least}
 use Rattle.dp_domain.specs.States.{Domains, LiesIn, IsWithin, is_dead, values}
 use Rattle.dp_domain.proofs.StateLaws.{LiesIn-alive, alive-value, dead-within}
 use Rattle.dp_rule_linear.specs.Differs.{ClashesDiffers, IsFixedAt, IsOnly, MeetsDiffers, are_single, face_differs, is_same, is_single, test_differs}
 use Rattle.dp_domain.proofs.ConditionLaws.{in_force-fixed, in_force-from_fixed, in_force-local, in_force-sound, in_force-within, test_cases, test_dead, test_over}
 use Rattle.dp_rule_linear.specs.FormLaws.{least_sum-local, total-same, variable_in_scope, variable_of}
-use Rattle.dp_domain.specs.Conditions.{Fails, in_force, with_condition}
+use Rattle.dp_domain.specs.Conditions.{in_force, with_condition}
 use Rattle.dp_rule_linear.specs.Forms.{Linear, least_product, least_sum, product, scope_of, sum_at, variables}
 use Rattle.dp_rule_linear.specs.IntLaws.{Among-map_only, least_image-among}
 use Rattle.dp_base.proofs.ScopeLaws.{climbs_in_order}
@@ -193,6 +192,7 @@ differs_deciding q d s alive fixes =
 
 -- the values that it may take out are those of the variables of its scope
 pub differs_points : (q : Linear) (x : ℕ) (v : ℤ) → (face_differs q).point x v ≡ true ↔ Among x (scope_of q)
-differs_points q x v =
-    (λ e. let r = list_any-some (λ y. x == y) (scope_of q) e in subst (λ y. Among y (scope_of q)) (sym ((Decides-eqb x r.0).0 r.2)) r.1,
-      λ here. list_any-at (λ y. x == y) (scope_of q) x here ((Decides-eqb x x).1 refl))
+differs_points q x v = (
+  λ e. let r = list_any-some (λ y. x == y) (scope_of q) e in subst (λ y. Among y (scope_of q)) (sym ((Decides-eqb x r.0).0 r.2)) r.1,
+  λ here. list_any-at (λ y. x == y) (scope_of q) x here ((Decides-eqb x x).1 refl),
+)

@@ -1,8 +1,8 @@
 -- Sums at states and assignments.
-use Rattle.std.specs.Prelude.{◌≡◌, ℕ, ◌<◌, Bool, false, unwrap_or, List, [], ◌∷◌, length, map, ℤ, pos, ◌+ℤ◌, ◌*ℤ◌, ◌≤ℤ◌}
-use Rattle.std.proofs.Common.{refl, sym, ◌∙◌, ap, inl, inr, arith}
+use Rattle.std.specs.Prelude.{◌≡◌, ℕ, ◌<◌, false, unwrap_or, List, [], ◌∷◌, length, map, ℤ, pos, ◌+ℤ◌, ◌*ℤ◌, ◌≤ℤ◌}
+use Rattle.std.proofs.Common.{refl, ◌∙◌, ap, inl, inr, arith}
 use Rattle.std.proofs.lemmas.Int.{ints}
-use Rattle.dp_base.specs.Lists.{Among, Each}
+use Rattle.dp_base.specs.Lists.{Among}
 use Rattle.dp_domain.specs.Sets.{least}
 use Rattle.dp_domain.specs.States.{Domains, IsWithin, is_dead, values}
 use Rattle.dp_domain.specs.Faces.{AgreesOn, Fixes}
@@ -10,7 +10,6 @@ use Rattle.dp_domain.proofs.StateLaws.{alive-value}
 use Rattle.dp_domain.specs.Conditions.{with_condition}
 use Rattle.dp_domain.proofs.ConditionLaws.{among_with_condition}
 use Rattle.dp_rule_linear.specs.Forms.{Linear, least_product, least_sum, product, scope_of, sum_at, total, variables}
-use Rattle.dp_base.specs.Scopes.{in_order}
 use Rattle.dp_base.proofs.ScopeLaws.{among_in_order}
 use Rattle.dp_rule_linear.specs.IntLaws.{Among-map, least_image-bound, least_image-within}
 

@@ -1,6 +1,5 @@
 -- Linear forms with a condition: what the two kinds of linear constraints share.
-use Rattle.std.specs.Prelude.{◌≡◌, ◌≢◌, ℕ, suc, ◌+◌, ◌^◌, ◌<◌, ◌≤◌, Option, Some, None, Bool, true, false, unwrap_or, List, [], ◌∷◌, length, map, get_or, ℤ, pos, neg_ℤ, ◌+ℤ◌, ◌*ℤ◌, ◌≤ℤ◌}
-use Rattle.dp_base.specs.Lists.{Among, Each}
+use Rattle.std.specs.Prelude.{◌≡◌, ◌≢◌, ℕ, ◌+◌, ◌^◌, ◌<◌, ◌≤◌, Option, unwrap_or, List, [], ◌∷◌, length, map, get_or, ℤ, pos, neg_ℤ, ◌+ℤ◌, ◌*ℤ◌, ◌≤ℤ◌}
 use Rattle.dp_domain.specs.Atoms.{Atomic}
 use Rattle.dp_domain.specs.Conditions.{IsApart, with_condition}
 use Rattle.dp_domain.specs.Sets.{least}
@@ -12,6 +11,10 @@ pub record Linear : Type 0 where
   pub condition : Option Atomic
   pub terms : List (ℤ × ℕ)
   pub rhs : ℤ
+
+-- the form of these parts
+abbrev pub form_of : Option Atomic → List (ℤ × ℕ) → ℤ → Linear
+form_of condition terms rhs = record { condition = condition; terms = terms; rhs = rhs }
 
 -- the sum of the numbers of the terms
 abbrev pub total : (ℤ × ℕ → ℤ) → List (ℤ × ℕ) → ℤ

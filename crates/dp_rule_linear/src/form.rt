@@ -1,10 +1,11 @@
 // What the two kinds share: a condition, terms and a number.
 
-ghost use Rattle.std.specs.Prelude.{◌≡◌, ℕ, ◌+◌, ◌<◌, Some, IfOk, IfErr, length, slice_get};
+ghost use Rattle.std.specs.Prelude.{◌≡◌, ℕ, ◌+◌, ◌<◌, ◌==◌, Some, IfOk, IfErr, length, slice_get};
+ghost use Rattle.std.specs.List.{list_any};
 ghost use Rattle.dp_base.specs.Lists.{Each};
 ghost use Rattle.dp_domain.specs.Faces.{Covers};
 ghost use Rattle.dp_domain.specs.Conditions.{IsApart, in_force};
-ghost use Rattle.dp_rule_linear.specs.Forms.{IsProper, Linear, least_sum, scope_of, variables};
+ghost use Rattle.dp_rule_linear.specs.Forms.{IsProper, Linear, form_of, least_sum, scope_of, variables};
 ghost use Rattle.dp_rule_linear.specs.Differs.{are_single};
 ghost use Rattle.dp_rule_linear.specs.Refusals.{IsRefused};
 
@@ -24,13 +25,13 @@ pub struct Form {
 }
 
 impl Model for Form {
-    ghost use Rattle.dp_rule_linear.specs.Forms.{Linear, IsProper};
+    ghost use Rattle.dp_rule_linear.specs.Forms.{Linear, IsProper, form_of};
 
     ghost Value = { Linear };
 
-    ghost view = { λ f. record { condition = f.condition; terms = f.terms.items; rhs = f.rhs } };
+    ghost view = { λ f. form_of f.condition f.terms.items f.rhs };
 
-    ghost invariant = { λ f. IsProper (record { condition = f.condition; terms = f.terms.items; rhs = f.rhs }) };
+    ghost invariant = { λ f. IsProper (form_of f.condition f.terms.items f.rhs) };
 }
 
 impl Form {
@@ -40,9 +41,9 @@ impl Form {
         terms: Vec<(i64, VarId)>,
         rhs: i128,
     ) -> Result<Form, LinRefusal>
-        ensures form { IfOk result (λ q. q ≡ record { condition = condition; terms = terms.items; rhs = rhs }) }
+        ensures form { IfOk result (λ q. q ≡ form_of condition terms.items rhs) }
         ensures proper { IfOk result IsProper }
-        ensures refused { IfErr result (λ refusal. IsRefused refusal (record { condition = condition; terms = terms.items; rhs = rhs })) }
+        ensures refused { IfErr result (λ refusal. IsRefused refusal (form_of condition terms.items rhs)) }
     {
         if terms.len() > MOST_TERMS {
             return Err(LinRefusal::TooMany);
@@ -106,6 +107,18 @@ impl Form {
                 var
             }
         }
+    }
+
+    /// Whether the variable is one of its own.
+    pub fn has_var(&self, var: VarId) -> bool
+        ensures { result ≡ list_any (λ y. var == y) (scope_of self.now) }
+    {
+        for place in 0..self.scope_len() {
+            if self.scope_at(place) == var {
+                return true;
+            }
+        }
+        false
     }
 
     /// Whether its condition is absent or entailed.

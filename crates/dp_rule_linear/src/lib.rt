@@ -7,7 +7,7 @@ mod lin_ne;
 mod refusal;
 mod sums;
 
-pub use dp_domain::{Atom, Memory, Rule, State, VarId};
+pub use dp_domain::{Atom, Found, Memory, Rule, State, Steps, Test, VarId};
 pub use lin_le::LinLe;
 pub use lin_ne::LinNe;
 pub use refusal::LinRefusal;

@@ -3,12 +3,14 @@
 ghost use Rattle.std.specs.Prelude.{◌≡◌, IfOk, IfErr};
 ghost use Rattle.dp_rule_linear.specs.AtMost.{ClashesAtMost, MeetsAtMost, face_at_most};
 ghost use Rattle.dp_rule_linear.specs.AtMostLaws.{at_most_deciding, at_most_exact, at_most_lawful, at_most_sound};
-ghost use Rattle.dp_rule_linear.specs.Forms.{IsProper, Linear};
+ghost use Rattle.dp_rule_linear.specs.Forms.{IsProper, form_of};
 ghost use Rattle.dp_rule_linear.specs.Refusals.{IsRefused};
 
 use crate::form::Form;
-use crate::{Atom, LinRefusal, Memory, Rule, State, VarId};
+use crate::{Atom, Found, LinRefusal, Memory, Rule, State, Steps, Test, VarId};
+use dp_domain::{search_explanation, search_turn};
 use std::marker::Model;
+use std::sync::ledger::Ledger;
 
 /// Unless its condition fails, the sum of its terms is at most its right side.
 #[derive(Debug, Drop)]
@@ -30,9 +32,9 @@ impl LinLe {
     /// that of the term before it; `BadRhs` beyond ±10^36; `BadCondition` where the condition's variable
     /// is also a term's.
     pub fn new(cond: Option<Atom>, terms: Vec<(i64, VarId)>, rhs: i128) -> Result<LinLe, LinRefusal>
-        ensures made { IfOk result (λ q. q ≡ record { condition = cond; terms = terms.items; rhs = rhs }) }
+        ensures made { IfOk result (λ q. q ≡ form_of cond terms.items rhs) }
         ensures proper { IfOk result IsProper }
-        ensures refused { IfErr result (λ refusal. IsRefused refusal (record { condition = cond; terms = terms.items; rhs = rhs })) }
+        ensures refused { IfErr result (λ refusal. IsRefused refusal (form_of cond terms.items rhs)) }
     {
         let form = Form::new(cond, terms, rhs)?;
         Ok(LinLe { form })
@@ -60,7 +62,7 @@ impl LinLe {
     }
 }
 
-impl Rule for LinLe {
+impl Test for LinLe {
     ghost face = { face_at_most };
 
     ghost clashes = { ClashesAtMost };
@@ -83,10 +85,33 @@ impl Rule for LinLe {
         self.form.scope_at(place)
     }
 
+    fn is_point(&self, _var: VarId, _value: i64) -> bool {
+        false
+    }
+
     fn clash(&self, state: &State) -> Result<bool, Memory> {
         Ok(
             state.dead()
                 || self.form.in_force(state) && self.form.least_sum(state) > self.form.rhs(),
         )
+    }
+}
+
+impl Rule for LinLe {
+    fn next<L: Ledger>(
+        &self,
+        state: &State,
+        steps: &mut Steps<L>,
+    ) -> Result<Option<Found>, Memory> {
+        search_turn(self, state, steps)
+    }
+
+    fn explain(
+        &self,
+        initial: &State,
+        now: &State,
+        target: Option<Atom>,
+    ) -> Result<Vec<Atom>, Memory> {
+        search_explanation(self, initial, now, target)
     }
 }

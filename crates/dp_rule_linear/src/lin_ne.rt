@@ -3,12 +3,14 @@
 ghost use Rattle.std.specs.Prelude.{◌≡◌, IfOk, IfErr};
 ghost use Rattle.dp_rule_linear.specs.Differs.{ClashesDiffers, MeetsDiffers, face_differs};
 ghost use Rattle.dp_rule_linear.specs.DiffersLaws.{differs_deciding, differs_exact, differs_lawful, differs_sound};
-ghost use Rattle.dp_rule_linear.specs.Forms.{IsProper, Linear};
+ghost use Rattle.dp_rule_linear.specs.Forms.{IsProper, form_of};
 ghost use Rattle.dp_rule_linear.specs.Refusals.{IsRefused};
 
 use crate::form::Form;
-use crate::{Atom, LinRefusal, Memory, Rule, State, VarId};
+use crate::{Atom, Found, LinRefusal, Memory, Rule, State, Steps, Test, VarId};
+use dp_domain::{search_explanation, search_turn};
 use std::marker::Model;
+use std::sync::ledger::Ledger;
 
 /// Unless its condition fails, the sum of its terms differs from its right side.
 #[derive(Debug, Drop)]
@@ -30,9 +32,9 @@ impl LinNe {
     /// that of the term before it; `BadRhs` beyond ±10^36; `BadCondition` where the condition's variable
     /// is also a term's.
     pub fn new(cond: Option<Atom>, terms: Vec<(i64, VarId)>, rhs: i128) -> Result<LinNe, LinRefusal>
-        ensures made { IfOk result (λ q. q ≡ record { condition = cond; terms = terms.items; rhs = rhs }) }
+        ensures made { IfOk result (λ q. q ≡ form_of cond terms.items rhs) }
         ensures proper { IfOk result IsProper }
-        ensures refused { IfErr result (λ refusal. IsRefused refusal (record { condition = cond; terms = terms.items; rhs = rhs })) }
+        ensures refused { IfErr result (λ refusal. IsRefused refusal (form_of cond terms.items rhs)) }
     {
         let form = Form::new(cond, terms, rhs)?;
         Ok(LinNe { form })
@@ -60,7 +62,7 @@ impl LinNe {
     }
 }
 
-impl Rule for LinNe {
+impl Test for LinNe {
     ghost face = { face_differs };
 
     ghost clashes = { ClashesDiffers };
@@ -83,6 +85,10 @@ impl Rule for LinNe {
         self.form.scope_at(place)
     }
 
+    fn is_point(&self, var: VarId, _value: i64) -> bool {
+        self.form.has_var(var)
+    }
+
     fn clash(&self, state: &State) -> Result<bool, Memory> {
         Ok(
             state.dead()
@@ -90,5 +96,24 @@ impl Rule for LinNe {
                     && self.form.are_single(state)
                     && self.form.least_sum(state) == self.form.rhs(),
         )
+    }
+}
+
+impl Rule for LinNe {
+    fn next<L: Ledger>(
+        &self,
+        state: &State,
+        steps: &mut Steps<L>,
+    ) -> Result<Option<Found>, Memory> {
+        search_turn(self, state, steps)
+    }
+
+    fn explain(
+        &self,
+        initial: &State,
+        now: &State,
+        target: Option<Atom>,
+    ) -> Result<Vec<Atom>, Memory> {
+        search_explanation(self, initial, now, target)
     }
 }

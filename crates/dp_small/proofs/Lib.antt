@@ -1,0 +1,13 @@
+pub mod AnswerLaws
+mod Arms
+mod Cuts
+mod FieldLaws
+mod LineLaws
+mod LogLaws
+mod Loops
+mod NumberLaws
+mod PieceLaws
+mod SpellingLaws
+pub mod Solutions
+mod Steps
+mod VariableLaws

@@ -1,42 +1,14 @@
 -- Logs in the small form, judged line by line.
-use Rattle.std.specs.Prelude.{◌≡◌, ℕ, ◌+◌, ◌^◌, ◌≤◌, ◌⊎◌, Bool, true, false, nat_le, ◌==◌, if◌then◌else◌, Option, Some, None, IsSome, IfSome, is_some, MatchBool, List, [], ◌∷◌, length, codes}
+use Rattle.std.specs.Prelude.{◌≡◌, ℕ, ◌+◌, ◌⊎◌, Bool, true, false, nat_le, ◌==◌, if◌then◌else◌, Some, None, is_some, MatchBool, List, [], ◌∷◌, length}
 use Rattle.dp_lines.specs.declared.line.Line.{Line}
-use Rattle.dp_lines.specs.declared.line.Line.TheVariants.{Atom, Inference, Nogood, Delete, Conclude}
-use Rattle.dp_lines.specs.declared.line.Claim.{Claim}
-use Rattle.dp_lines.specs.declared.line.Claim.TheVariants.{Unsat, Bound}
-use Rattle.dp_lines.specs.Allowed.{IsAllowed}
-use Rattle.dp_lines.specs.Spelling.{fields_text}
 use Rattle.dp_parts.specs.Posed.{Posed}
 use Rattle.dp_checker.specs.declared.refusal.Why.{Why}
 use Rattle.dp_checker.specs.declared.refusal.Why.TheVariants.{AfterConclusion, UnknownVar, AtomTwice, UnknownAtom, StepTwice, UnknownStep, UnknownConstraint, WrongLabel, NotImplied, NoClash, NoGoal, WrongBound, NotConcluded, NoConclusion}
 use Rattle.dp_checker.specs.Known.{Known, nothing}
 use Rattle.dp_checker.specs.Judged.{after, first_refusal}
+use Rattle.dp_small.specs.Lines.{Spells}
 use Rattle.dp_small.specs.declared.answer.LogAnswer.{LogAnswer}
 use Rattle.dp_small.specs.declared.answer.LogAnswer.TheVariants.{Accepted, NotBuilt, Refused}
-
--- what the small form says of an inference: it names its constraint, and no label but `linear`
-abbrev pub IsSmallInference : Option ℕ → Option (List ℕ) → Type 0
-IsSmallInference constraint label = IsSome constraint × IfSome label (λ l. l ≡ codes "linear")
-
--- the only conclusion of the small form
-abbrev pub IsSmallClaim : Claim → Type 0
-IsSmallClaim Unsat = Unit {0}
-IsSmallClaim (Bound literal) = ⊥
-
--- what the small form says of each kind of line
-abbrev pub IsSmallKind : Line → Type 0
-IsSmallKind (Atom id name op value) = Unit {0}
-IsSmallKind (Inference id premises consequent constraint label) = IsSmallInference constraint label
-IsSmallKind (Nogood id atoms hints) = Unit {0}
-IsSmallKind (Delete id) = ⊥
-IsSmallKind (Conclude claim) = IsSmallClaim claim
-
--- the bytes, which stand before a line's end, are the canonical spelling of this line of the small form
-pub record Spells (bytes : List ℕ) (line : Line) : Type 0 where
-  pub allowed : IsAllowed line
-  pub kind : IsSmallKind line
-  pub spelled : bytes ≡ fields_text line
-  pub short : length bytes ≤ 2 ^ 24
 
 -- a text cut at its line ends: the whole lines, and what stands behind the last
 pub record Lines : Type 0 where

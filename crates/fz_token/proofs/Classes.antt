@@ -113,7 +113,7 @@ signed_class w h = elim (cases_Bool (is_negative w)) [
   | inr plus ↦ class_of_digit (get_or w 0 0) (subst (λ (b : Bool). is_digit (get_or (cond b (drop 1 w) w) 0 0) 10 ≡ true) plus h)
 ]
 
-quote_class : class_of 34 ≡ Quotes
+pub quote_class : class_of 34 ≡ Quotes
 unfolding class_of
 quote_class = refl
 

@@ -4,6 +4,7 @@ use Rattle.std.proofs.lemmas.List.{length-take-le, length-drop, get_or-take}
 use Rattle.std.proofs.lemmas.Bool.{cases_Bool, eqb-true, eqb-false, eq-eqb, or_cases, or_parts, both_ways}
 use Rattle.fz_token.specs.Gap.{is_blank, gap_end, IsInComment, IsGap}
 use Rattle.fz_token.specs.Next.{EndsGap}
+use Rattle.fz_token.proofs.Streams.{gap_end-ge}
 
 -- a byte of a gap that begins in a comment or not
 abbrev IsGapByte : Bool → List ℕ → ℕ → Type 0
@@ -141,10 +142,6 @@ no_gap_byte inside b w p other h = elim h [
     | inr line ↦ both_ways inside (or_parts inside (eqb b 37) p).0 line.0
   ]
 ]
-
-gap_end-ge : (s : List ℕ) (at : ℕ) (inside : Bool) → at ≤ gap_end at inside s
-gap_end-ge [] at inside = omega arith
-gap_end-ge (b ∷ rest) at inside = grind (arith, gap_end-ge rest (at + 1) false, gap_end-ge rest (at + 1) true)
 
 longest_gap : (s : List ℕ) (at : ℕ) (inside : Bool) (n : ℕ) → n ≤ length s → ((i : ℕ) → i < n → IsGapByte inside s i) → at + n ≤ gap_end at inside s
 longest_gap s at inside zero l h = omega (arith, gap_end-ge s at inside)

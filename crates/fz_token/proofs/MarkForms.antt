@@ -8,7 +8,7 @@ use Rattle.fz_token.specs.declared.Mark.{Mark}
 use Rattle.fz_token.specs.declared.Mark.TheVariants as mark
 use Rattle.fz_token.specs.declared.TokenKind.{TokenKind}
 use Rattle.fz_token.specs.declared.TokenKind.TheVariants as kind
-use Rattle.fz_token.proofs.Classes.{Class, Words, Numbers, Quotes, Marks, Others, class_of, front_class, lacks_class}
+use Rattle.fz_token.proofs.Classes.{Class, Words, Numbers, Quotes, Marks, Others, class_of, front_class, lacks_class, quote_class}
 
 -- ---- the tests know the spellings
 
@@ -139,15 +139,11 @@ untested s n m no_two no_one h = elim h [
   | inr two ↦ (let some : double (get_or s 0 0) (get_or s 1 0) ≡ Some m = two.1 in cc)
 ]
 
-quotes_class : class_of 34 ≡ Quotes
-unfolding class_of
-quotes_class = refl
-
 single_says : (at : ℕ) (s : List ℕ) (o : Option Mark) → IsMarkClass (class_of (get_or s 0 0)) → double (get_or s 0 0) (get_or s 1 0) ≡ None →
     single (get_or s 0 0) ≡ o → Says at s (single_token at o)
 single_says at s None c none e = (
   refl,
-  λ q. not_quotes (subst IsMarkClass (ap class_of q ∙ quotes_class) c),
+  λ q. not_quotes (subst IsMarkClass (ap class_of q ∙ quote_class) c),
   λ n k within h. let found = only_mark s n k c within h in untested s n found.0 none e found.1,
 )
 single_says at s (Some m) c none e =

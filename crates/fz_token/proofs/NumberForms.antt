@@ -10,7 +10,7 @@ use Rattle.fz_token.specs.Forms.{Spells, Says, Stands, IsToken, IsInteger, IsFlo
 use Rattle.fz_token.specs.Number.{limit, digits_len, float_tail_len, radix_of, base_len, signed, integer, integer_token, unsigned_at, number_at}
 use Rattle.fz_token.specs.declared.TokenKind.{TokenKind}
 use Rattle.fz_token.specs.declared.TokenKind.TheVariants as kind
-use Rattle.fz_token.proofs.Classes.{Words, Numbers, Quotes, Marks, class_of, front_class, front_some, first_digit, natural_first}
+use Rattle.fz_token.proofs.Classes.{Words, Numbers, Quotes, Marks, class_of, front_class, front_some, first_digit, natural_first, quote_class}
 use Rattle.fz_token.proofs.FloatRuns.{digits_form, tail_form, tail_part, zero_or_some}
 use Rattle.fz_token.proofs.NaturalRuns.{NaturalRun, Named, named_cases, named_hex, named_oct, hex_run, oct_run, dec_run}
 use Rattle.fz_token.proofs.Runs.{take_add, run_before}
@@ -110,12 +110,8 @@ digit_run u zero h = let none : is_digit 0 10 ≡ false = refl in cc
 digit_run [] (suc m) h = let none : is_digit 0 10 ≡ false = refl in cc
 digit_run (b ∷ u) (suc m) h = rw h (omega arith)
 
-quotes_class : class_of 34 ≡ Quotes
-unfolding class_of
-quotes_class = refl
-
 no_quote : (b : ℕ) → class_of b ≡ Numbers → b ≢ 34
-no_quote b c e = let other : class_of b ≡ Quotes = ap class_of e ∙ quotes_class in cc
+no_quote b c e = let other : class_of b ≡ Quotes = ap class_of e ∙ quote_class in cc
 
 bare_says : (start sign : ℕ) (negative : Bool) (s u : List ℕ) → Signed s u sign negative → class_of (get_or s 0 0) ≡ Numbers → digits_len 10 u ≡ 0 →
     (slice_index s 0 ≢ 34) × NothingStands s

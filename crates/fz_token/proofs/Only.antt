@@ -1,6 +1,6 @@
 -- The table says one thing only.
-use Rattle.std.proofs.Common.{◌≡◌, ◌≢◌, ℕ, zero, suc, ◌+◌, ◌-◌, ◌<◌, ◌≤◌, Bool, true, false, eqb, List, [], ◌∷◌, ◌++◌, length, take, drop, get_or, Option, Some, None, Result, Ok, Err, refl, sym, ◌∙◌, ap, subst, arith, rules, inl, inr, ◌⊎◌}
-use Rattle.std.specs.Prelude.{ℤ, pos, nat_abs}
+use Rattle.std.proofs.Common.{◌≡◌, ℕ, ◌+◌, ◌-◌, ◌<◌, ◌≤◌, true, false, eqb, List, [], ◌∷◌, length, take, drop, Option, Some, None, Result, Ok, Err, refl, sym, ◌∙◌, ap, subst, arith, inl, inr, ◌⊎◌}
+use Rattle.std.specs.Prelude.{ℤ, nat_abs}
 use Rattle.std.specs.Char.{is_digit}
 use Rattle.std.specs.List.{AllPass}
 use Rattle.std.specs.Str.Parse.{digits_value}
@@ -8,7 +8,6 @@ use Rattle.std.proofs.lemmas.Bool.{cases_Bool, eqb-true}
 use Rattle.std.proofs.lemmas.List.{length-drop, take_all}
 use Rattle.std.proofs.lemmas.List.Sums.{AllPass-from_list_all}
 use Rattle.fz_token.specs.Forms.{Spells, Says, Stands, IsToken, IsTooLarge, IsInteger, IsFloat, IsNatural, IsBased, IsDigits, LacksDigits, NothingStands, KeepsLimit, unsigned, is_negative}
-use Rattle.fz_token.specs.Gap.{IsGap}
 use Rattle.fz_token.specs.Next.{EndsGap, SaysAt, IsNext}
 use Rattle.fz_token.specs.Number.{limit, signed, digits_len, float_tail_len}
 use Rattle.fz_token.specs.Reading.{Reading}
@@ -21,7 +20,7 @@ use Rattle.fz_token.specs.declared.TokenKind.{TokenKind}
 use Rattle.fz_token.specs.declared.TokenKind.TheVariants as kind
 use Rattle.fz_token.specs.declared.TokenRefusal.{TokenRefusal}
 use Rattle.fz_token.specs.declared.TokenRefusal.TheVariants.{BadByte, Number, OpenString}
-use Rattle.fz_token.proofs.Classes.{Class, Words, Numbers, Quotes, Marks, kind_class, spells_class, natural_first}
+use Rattle.fz_token.proofs.Classes.{Words, Numbers, Quotes, Marks, kind_class, spells_class, natural_first}
 use Rattle.fz_token.proofs.FloatRuns.{tail_form}
 use Rattle.fz_token.proofs.MarkForms.{IsTested, front_tested}
 use Rattle.fz_token.proofs.NumberForms.{digit_run, float_front, natural_within, second_is, rest_is}

@@ -13,11 +13,11 @@ lt_true m n h = grind arith
 lt_false : (m n : ℕ) → n ≤ m → nat_lt m n ≡ false
 lt_false m n h = grind arith
 
-stream_passed : (b : ℕ) (rest : List ℕ) (at place : ℕ) → at < place → stream_from (b ∷ rest) at place ≡ stream_from rest (at + 1) place
+pub stream_passed : (b : ℕ) (rest : List ℕ) (at place : ℕ) → at < place → stream_from (b ∷ rest) at place ≡ stream_from rest (at + 1) place
 unfolding stream_from
 stream_passed b rest at place h = rw (lt_true at place h) refl
 
-stream_reached : (b : ℕ) (rest : List ℕ) (at place : ℕ) → place ≤ at →
+pub stream_reached : (b : ℕ) (rest : List ℕ) (at place : ℕ) → place ≤ at →
     stream_from (b ∷ rest) at place ≡ led_by (token_at at (b ∷ rest)) (λ end. stream_from rest (at + 1) (gap_end end false (drop (end - at) (b ∷ rest))))
 unfolding stream_from
 stream_reached b rest at place h = rw (lt_false at place h) refl
@@ -57,7 +57,7 @@ leads text place h =
     ∙ subst (λ s. stream_from s place place ≡ led_by (token_at place s) (λ end. stream_from (drop (place + 1) text) (place + 1) (gap_end end false (drop (end - place) s)))) (sym e)
     (stream_reached (get_or text place 0) (drop (place + 1) text) place place (omega arith))
 
-gap_end-ge : (s : List ℕ) (at : ℕ) (in_comment : Bool) → at ≤ gap_end at in_comment s
+pub gap_end-ge : (s : List ℕ) (at : ℕ) (in_comment : Bool) → at ≤ gap_end at in_comment s
 gap_end-ge [] at in_comment = omega arith
 gap_end-ge (b ∷ rest) at in_comment =
     grind (arith, gap_end-ge rest (at + 1) false, gap_end-ge rest (at + 1) true)

@@ -6,7 +6,7 @@ use Rattle.fz_token.specs.Forms.{Spells, IsBody, IsString, Says}
 use Rattle.fz_token.specs.Quoted.{closed_len, quoted_token, quoted_at}
 use Rattle.fz_token.specs.declared.TokenKind.{TokenKind}
 use Rattle.fz_token.specs.declared.TokenKind.TheVariants as kind
-use Rattle.fz_token.proofs.Classes.{Words, Numbers, Quotes, Marks, class_of, front_class, lacks_class}
+use Rattle.fz_token.proofs.Classes.{Words, Numbers, Quotes, Marks, class_of, front_class, lacks_class, quote_class}
 
 stays_open : (b : ℕ) (taken : Bool) → (taken ≡ false → b ≢ 34) → (eqb b 34 && not taken) ≡ false
 stays_open b true h = and_right (eqb b 34) false refl
@@ -84,10 +84,6 @@ string_closed b rest n within h =
       omega (arith, size, ap length h.spelled, length-append h.body (34 ∷ [])),
     )
 
-quotes_class : class_of 34 ≡ Quotes
-unfolding class_of
-quotes_class = refl
-
 -- only a string begins with a quote
 only_string : (s : List ℕ) (n : ℕ) (k : TokenKind) → class_of (get_or s 0 0) ≡ Quotes → Spells k (take n s) → IsString (take n s)
 only_string s n kind.Quoted c h = h
@@ -99,14 +95,14 @@ only_string s n (kind.Mark m) c h = let other : class_of (get_or s 0 0) ≡ Mark
 
 answer_says : (at b : ℕ) (rest : List ℕ) (o : Option ℕ) → b ≡ 34 → closed_len 0 false rest ≡ o → Says at (b ∷ rest) (quoted_token at o)
 answer_says at b rest None q e =
-    let c : class_of b ≡ Quotes = ap class_of q ∙ quotes_class in (
+    let c : class_of b ≡ Quotes = ap class_of q ∙ quote_class in (
       refl,
       q,
       λ n k within h. let found = string_closed b rest n within (only_string (b ∷ rest) n k c h) in
           let some : closed_len 0 false rest ≡ Some found.0 = found.1 in cc,
     )
 answer_says at b rest (Some len) q e =
-    let c : class_of b ≡ Quotes = ap class_of q ∙ quotes_class in
+    let c : class_of b ≡ Quotes = ap class_of q ∙ quote_class in
     let closed = closed_body 0 false rest len e in
     let same : len ≡ 0 + closed.len = closed.reaches in
     let equal : closed.len ≡ len = omega arith in

@@ -1,5 +1,5 @@
 -- The tokens of a text.
-use Rattle.std.specs.Prelude.{ℕ, ◌+◌, ◌-◌, Bool, true, false, nat_lt, nat_le, if◌then◌else◌, List, [], ◌∷◌, length, drop, Option, Some, None, Result, Ok, Err}
+use Rattle.std.specs.Prelude.{ℕ, ◌+◌, ◌-◌, Bool, true, false, nat_lt, nat_le, if◌then◌else◌, List, [], ◌∷◌, length, drop, ◌<◌, ◌≤◌, Option, Some, None, Result, Ok, Err}
 use Rattle.fz_token.specs.Gap.{gap_end}
 use Rattle.fz_token.specs.Reading.{Reading}
 use Rattle.fz_token.specs.Token.{token_at}
@@ -71,3 +71,9 @@ abbrev pub before : Result (Option Token) TokenRefusal → Stream → Stream
 before (Ok (Some token)) rest = with_token token rest
 before (Ok None) rest = nothing
 before (Err refusal) rest = refused refusal
+
+-- the tokens end by `size`, and each begins at `from`, or where the one before it ends, or later
+abbrev pub IsInOrder : ℕ → ℕ → List Token → Type 0
+IsInOrder from size [] = Unit {0}
+IsInOrder from size (token ∷ tokens) =
+    (from ≤ token.start) × (token.start < token.end) × (token.end ≤ size) × IsInOrder token.end size tokens

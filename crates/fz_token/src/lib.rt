@@ -125,13 +125,16 @@ impl<'a> Model for Tokens<'a> {
 }
 
 impl<'a> Tokens<'a> {
-    ghost use Rattle.std.specs.Prelude.{◌<◌, ◌↔◌, IfOk, IfSome};
+    ghost use Rattle.std.specs.Prelude.{◌<◌, ◌↔◌, IfOk, IfSome, OnErr};
     ghost use Rattle.fz_token.specs.Next.{IsNext, IsOnlyNext, IsUsedUp};
-    ghost use Rattle.fz_token.specs.Stream.{next_of, place_after, stream_at, before};
+    ghost use Rattle.fz_token.specs.Stream.{IsInOrder, next_of, place_after, stream, stream_at, before};
 
     /// The tokens from the first byte of `text` on.
     pub fn new(text: &'a [u8]) -> Tokens<'a>
-        ensures { result ≡ record { text = text.entry.now; at = 0 } }
+        ensures start { result ≡ record { text = text.entry.now; at = 0 } }
+
+        // The tokens of any text stand in it, one behind another.
+        ensures in_order { IsInOrder 0 (length text.entry.now) (stream text.entry.now).tokens }
     {
         Tokens { text, at: 0 }
     }
@@ -141,6 +144,7 @@ impl<'a> Tokens<'a> {
     pub fn next(&mut self) -> Result<Option<Token>, TokenRefusal>
         ensures answer { result ≡ next_of self.old }
         ensures place { self.new ≡ record self.old { at = place_after result self.old.at } }
+        ensures err { OnErr result (self.new ≡ self.old) }
 
         // It is the one answer that the table of forms gives.
         ensures table { IsNext self.old result }

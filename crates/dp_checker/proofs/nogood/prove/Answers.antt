@@ -1,4 +1,4 @@
-use Rattle.std.proofs.Common.{◌≡◌, ◌<◌, length, arith}
+use Rattle.std.proofs.Common.{◌<◌, length, arith}
 use Rattle.dp_checker.proofs.Loops.{each_below, prove_step}
 use Rattle.dp_checker.proofs.nogood.prove.Goals as goal
 

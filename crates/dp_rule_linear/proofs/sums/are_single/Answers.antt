@@ -1,5 +1,5 @@
 -- The test of all is the test of what is left.
-use Rattle.std.proofs.Common.{◌≡◌, ◌&&◌, ◌+◌, drop, refl, sym, ◌∙◌, ap}
+use Rattle.std.proofs.Common.{◌&&◌, ◌+◌, drop, sym, ◌∙◌, ap}
 use Rattle.std.specs.List.{list_all}
 use Rattle.std.proofs.lemmas.List.{drop_all}
 use Rattle.dp_domain.specs.States.{values}

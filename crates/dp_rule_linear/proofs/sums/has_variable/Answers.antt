@@ -1,7 +1,6 @@
 -- The variable stands at the place where it is found, and nowhere where nothing is left.
-use Rattle.std.proofs.Common.{◌≡◌, refl, subst}
-use Rattle.std.proofs.lemmas.Bool.{both_ways, false≢true}
-use Rattle.std.proofs.lemmas.Bool.Decides.{Decides-eqb}
+use Rattle.std.proofs.Common.{refl, subst}
+use Rattle.std.proofs.lemmas.Bool.{false≢true}
 use Rattle.std.proofs.lemmas.List.{drop_all}
 use Rattle.dp_base.specs.Lists.{Among}
 use Rattle.dp_rule_linear.specs.Forms.{variables}

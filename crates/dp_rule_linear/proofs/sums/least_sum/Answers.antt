@@ -1,10 +1,10 @@
 -- Each term adds its least value, and 2,000,000 of them fit.
-use Rattle.std.proofs.Common.{◌≡◌, ◌+◌, ◌∙◌, ap, arith, rules, subst, sym}
+use Rattle.std.proofs.Common.{◌+◌, ◌∙◌, ap, arith, rules, subst, sym}
 use Rattle.std.proofs.lemmas.Int.{ints, to_z-of_z}
 use Rattle.std.specs.Prelude.{FitsSigned}
 use mir.Syntax.{w64}
 use Rattle.dp_rule_linear.specs.Forms.{least_product}
-use Rattle.dp_rule_linear.proofs.SumSteps.{IsSumSoFar, covered_at, sum_all, sum_fits, sum_more, sum_none, sum_read}
+use Rattle.dp_rule_linear.proofs.SumSteps.{IsSumSoFar, covered_at, sum_all, sum_more, sum_none, sum_read}
 use Rattle.dp_rule_linear.proofs.sums.least_sum.Goals as goal
 
 pub loop-coefficient-init : goal.loop-coefficient-init

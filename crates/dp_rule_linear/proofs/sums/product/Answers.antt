@@ -1,5 +1,5 @@
 -- A product of bounded numbers is bounded.
-use Rattle.std.proofs.Common.{◌∙◌, arith}
+use Rattle.std.proofs.Common.{arith}
 use Rattle.std.proofs.lemmas.Int.{ints}
 use Rattle.dp_rule_linear.proofs.SumSteps.{product_read}
 use Rattle.dp_rule_linear.proofs.sums.product.Goals as goal

@@ -2,12 +2,12 @@
 use Rattle.std.proofs.Common.{◌<◌, length, subst, sym}
 use Rattle.dp_base.specs.Lists.{Each}
 use Rattle.dp_domain.specs.Faces.{Covers}
-use Rattle.dp_rule_linear.specs.Forms.{Linear, scope_of, variables}
+use Rattle.dp_rule_linear.specs.Forms.{Linear, form_of, scope_of, variables}
 use Rattle.dp_rule_linear.proofs.Places.{terms_covered}
 use Rattle.dp_rule_linear.proofs.form.Form.are_single.Goals as goal
 
 pub are_single-requires : goal.are_single-requires
 are_single-requires c =
-    let q : Linear = record { condition = c.self.inside.condition; terms = c.self.inside.terms.items; rhs = c.self.inside.rhs } in
+    let q : Linear = form_of c.self.inside.condition c.self.inside.terms.items c.self.inside.rhs in
     subst (λ ts. Each (λ x. x < length c.args.state.now) (variables ts)) (sym c.deref.ensures.value)
     (terms_covered q c.args.state.now (subst (λ (q : Linear). Covers (scope_of q) c.args.state.now) (sym c.self.view_is) c.requires))

@@ -1,0 +1,9 @@
+-- What a command of the code asks for.
+use Rattle.dp_command.specs.Words.{Request}
+use Rattle.dp_command.specs.Words as request
+use Rattle.dp_command.specs.declared.words.Command.{Command}
+use Rattle.dp_command.specs.declared.words.Command.TheVariants.{Check}
+
+-- the command with the names that it holds
+abbrev pub asked : Command → Request
+asked (Check model log) = request.Check model.now log.now

@@ -1,0 +1,6 @@
+pub mod Asked
+pub mod Due
+pub mod Inputs
+pub mod Replies
+pub mod Texts
+pub mod Words

@@ -1,0 +1,14 @@
+-- The words of a command line, and the commands that they are.
+use Rattle.std.specs.Prelude.{◌≡◌, ℕ, List, [], ◌∷◌, codes}
+
+-- what the words ask for
+pub data Request : Type 0 where
+  Check : List ℕ → List ℕ → Request
+
+-- the words of each command
+abbrev pub words_of : Request → List (List ℕ)
+words_of (Check model log) = codes "check" ∷ model ∷ log ∷ []
+
+-- the words are no command
+abbrev pub AreNoCommand : List (List ℕ) → Type 0
+AreNoCommand words = (request : Request) → words ≡ words_of request → ⊥

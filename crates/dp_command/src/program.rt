@@ -1,0 +1,95 @@
+// The top call.
+
+ghost use Rattle.std.specs.Prelude.{◌≡◌, ◌<◌, ◌≤◌, map, IfOk};
+ghost use Rattle.dp_desk.specs.Channel.{Grows};
+ghost use Rattle.dp_desk.specs.Causes.{Rose};
+ghost use Rattle.dp_command.specs.Asked.{asked};
+ghost use Rattle.dp_command.specs.Words.{words_of};
+ghost use Rattle.dp_command.specs.Inputs.{HasReadCause};
+ghost use Rattle.dp_command.specs.Due.{Said, SaidPart, ChangesInputs, ChangesAnswer, LeavesUnread, AreAtEnd};
+ghost use Rattle.dp_command.specs.Replies.{Replies, IsSound, IsUnsatisfiable};
+ghost use Rattle.dp_command.specs.Texts.{read_fault, status_of};
+
+use crate::check::check;
+use crate::reply::Reply;
+use crate::saying::say;
+use crate::{Command, Trouble, read_words};
+use dp_base::Memory;
+use dp_desk::Desk;
+use std::alloc::Global;
+
+// The status where an input could not be opened or read.
+const READ_FAULT: u8 = 5;
+
+// The status where an allocation was refused.
+const OUT_OF_MEMORY: u8 = 7;
+
+/// Does what the words ask for over a desk, and answers the status that the program ends with.
+///
+/// The words are judged first, then the model, then the log. Status 0 comes where the log is accepted, 1 where it is
+/// refused, 2 where the words are no command, 3 where the model is refused, 5 and 6 where an input and where an output
+/// failed, and 7 for want of memory. At each status but 7 a text is written as the answer.
+pub fn run<D: Desk>(alloc: Global, words: &[&str], desk: &mut D) -> u8
+    // The status and the text are those of the reply that belongs to the words and the inputs.
+    ensures answered { let texts = map (λ w. w.now) words.now in result ≤ 4 → Said (D.sight desk.old).names texts result (D.sight desk.old).answer (D.sight desk.new).answer }
+
+    // An accepted log proves that the model cannot be satisfied.
+    ensures sound { let texts = map (λ w. w.now) words.now in result ≡ 0 → IsUnsatisfiable (D.sight desk.old).names texts }
+    ensures ended { result ≡ 0 → AreAtEnd (D.sight desk.new) }
+    ensures unread_words { result ≡ 2 → (D.sight desk.new).model ≡ (D.sight desk.old).model × ((D.sight desk.new).log ≡ (D.sight desk.old).log) }
+    ensures unread_log { result ≡ 3 → (D.sight desk.new).log ≡ (D.sight desk.old).log }
+
+    // Faults come only where an input or an output failed, and are never hidden.
+    ensures read_fault { result ≡ 5 → Rose (D.faults_in desk.old) (D.faults_in desk.new) × Grows (D.sight desk.old).answer (D.sight desk.new).answer read_fault }
+    ensures write_fault { result ≡ 6 → Rose (D.faults_out desk.old) (D.faults_out desk.new) }
+    ensures in_seen { D.faults_in desk.old < D.faults_in desk.new → 5 ≤ result }
+    ensures out_seen { D.faults_out desk.old < D.faults_out desk.new → result ≡ 6 }
+    ensures in_counted { D.faults_in desk.old ≤ D.faults_in desk.new }
+    ensures out_counted { D.faults_out desk.old ≤ D.faults_out desk.new }
+
+    // After a failed write a front of what was due stands there, and nothing more.
+    ensures front { let texts = map (λ w. w.now) words.now in result ≡ 6 → SaidPart (D.sight desk.old).names texts (Rose (D.faults_in desk.old) (D.faults_in desk.new)) (D.sight desk.old).answer (D.sight desk.new).answer }
+    ensures nothing { result ≡ 7 → (D.sight desk.new).answer ≡ (D.sight desk.old).answer }
+    ensures rest { ChangesAnswer (D.sight desk.old) (D.sight desk.new) }
+    ensures known { result ≤ 7 }
+{
+    match reply_to(alloc, words, desk) {
+        Ok(reply) => match reply.text(alloc) {
+            Ok(text) => say(desk, text.as_slice(), reply.status()),
+            Err(Memory) => OUT_OF_MEMORY,
+        },
+        Err(Trouble::ReadFault) => say(desk, b"read fault\n", READ_FAULT),
+        Err(Trouble::Memory) => OUT_OF_MEMORY,
+    }
+}
+
+// Reads and judges what the words ask for, and writes nothing.
+fn reply_to<D: Desk>(alloc: Global, words: &[&str], desk: &mut D) -> Result<Reply, Trouble>
+    ensures due { let texts = map (λ w. w.now) words.now in IfOk result (λ reply. Replies (D.sight desk.old).names texts reply) }
+    ensures sound { let texts = map (λ w. w.now) words.now in IfOk result (λ reply. status_of reply ≡ 0 → IsUnsatisfiable (D.sight desk.old).names texts) }
+    ensures ended { IfOk result (λ reply. status_of reply ≡ 0 → AreAtEnd (D.sight desk.new)) }
+    ensures unread { IfOk result (λ reply. LeavesUnread reply (D.sight desk.old) (D.sight desk.new)) }
+    ensures rest { ChangesInputs (D.sight desk.old) (D.sight desk.new) }
+    ensures cause { HasReadCause (D.faults_in desk.old) (D.faults_in desk.new) result }
+    ensures other { D.faults_out desk.new ≡ D.faults_out desk.old }
+{
+    match read_words(words) {
+        Some(command) => obey(alloc, command, desk),
+        None => Ok(Reply::NoCommand),
+    }
+}
+
+// Reads and judges what a command asks for, and writes nothing.
+fn obey<D: Desk>(alloc: Global, command: Command<'_>, desk: &mut D) -> Result<Reply, Trouble>
+    ensures due { IfOk result (λ reply. Replies (D.sight desk.old).names (words_of (asked command.entry)) reply) }
+    ensures sound { IfOk result (λ reply. IsSound (D.sight desk.old).names (words_of (asked command.entry)) reply) }
+    ensures ended { IfOk result (λ reply. status_of reply ≡ 0 → AreAtEnd (D.sight desk.new)) }
+    ensures unread { IfOk result (λ reply. LeavesUnread reply (D.sight desk.old) (D.sight desk.new)) }
+    ensures rest { ChangesInputs (D.sight desk.old) (D.sight desk.new) }
+    ensures cause { HasReadCause (D.faults_in desk.old) (D.faults_in desk.new) result }
+    ensures other { D.faults_out desk.new ≡ D.faults_out desk.old }
+{
+    match command {
+        Command::Check { model, log } => check(alloc, model, log, desk),
+    }
+}

@@ -1,0 +1,28 @@
+// The words of a command line.
+
+ghost use Rattle.std.specs.Prelude.{◌≡◌, map, MatchOption};
+ghost use Rattle.dp_command.specs.Asked.{asked};
+ghost use Rattle.dp_command.specs.Words.{words_of, AreNoCommand};
+
+/// What the words ask for.
+#[derive(Clone, Copy, Debug, PartialEq, Eq)]
+pub enum Command<'a> {
+    /// Judges a log of a model.
+    Check {
+        /// The name of the model's text.
+        model: &'a str,
+        /// The name of the log.
+        log: &'a str,
+    },
+}
+
+/// Reads the words of a command line, which stand behind the program's name. None exactly where they are no
+/// command.
+pub fn read_words<'a>(words: &[&'a str]) -> Option<Command<'a>>
+    ensures { let texts = map (λ w. w.now) words.now in MatchOption result (AreNoCommand texts) (λ command. texts ≡ words_of (asked command)) }
+{
+    match words {
+        ["check", model, log] => Some(Command::Check { model, log }),
+        _ => None,
+    }
+}

@@ -1,0 +1,7 @@
+use Rattle.std.proofs.Common.{◌≡◌, ℕ, ◌<◌, false, get_or, pos}
+use Rattle.dp_domain.proofs.TurnSteps.{takes}
+use Rattle.dp_domain.proofs.turn.new_hole.Given as goal
+
+-- no value so far is taken out
+abbrev pub invariant-loop-place : goal.invariant-loop-place
+invariant-loop-place g l = (k : ℕ) → k < l.place → takes (g.R.Test.face l.rule) l.state l.var (get_or l.values k (pos 0)) ≡ false
