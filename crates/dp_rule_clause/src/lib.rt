@@ -5,7 +5,7 @@ mod atoms;
 mod nogood;
 mod within;
 
-pub use dp_domain::{Atom, Dom, Memory, Rule, State, VarId};
+pub use dp_domain::{Atom, Dom, Found, Memory, Rule, State, Steps, Test, VarId};
 pub use nogood::Nogood;
 pub use within::{BadCondition, Within};
 

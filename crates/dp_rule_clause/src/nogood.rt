@@ -6,10 +6,12 @@ ghost use Rattle.dp_domain.specs.Atoms.{Atomic};
 ghost use Rattle.dp_rule_clause.specs.NogoodLaws.{nogood_deciding, nogood_exact, nogood_lawful, nogood_sound};
 ghost use Rattle.dp_rule_clause.specs.Nogoods.{ClashesNogood, IsOnce, MeetsNogood, each_once, face_nogood};
 
-use crate::{Atom, Memory, Rule, State, VarId, atoms};
+use crate::{Atom, Found, Memory, Rule, State, Steps, Test, VarId, atoms};
+use dp_domain::{search_explanation, search_turn};
 use smallvec::SmallVec;
 use std::alloc::Global;
 use std::marker::Model;
+use std::sync::ledger::Ledger;
 
 /// Atoms of which at least one fails, seen as their list. Up to four take no memory.
 #[derive(Debug, Drop)]
@@ -50,17 +52,9 @@ impl Nogood {
     {
         self.atoms.as_slice()
     }
-
-    /// Whether it may take the value out of the variable singly, where both bounds stay: where `==` of
-    /// them is one of its atoms.
-    pub fn is_point(&self, var: VarId, value: i64) -> bool
-        ensures { result ≡ (face_nogood self.now).point var value }
-    {
-        atoms::has_equation(self.atoms.as_slice(), var, value)
-    }
 }
 
-impl Rule for Nogood {
+impl Test for Nogood {
     ghost face = { face_nogood };
 
     ghost clashes = { ClashesNogood };
@@ -83,7 +77,30 @@ impl Rule for Nogood {
         self.scope.as_slice()[place]
     }
 
+    fn is_point(&self, var: VarId, value: i64) -> bool {
+        atoms::has_equation(self.atoms.as_slice(), var, value)
+    }
+
     fn clash(&self, state: &State) -> Result<bool, Memory> {
         Ok(state.dead() || atoms::are_entailed(self.atoms.as_slice(), state))
+    }
+}
+
+impl Rule for Nogood {
+    fn next<L: Ledger>(
+        &self,
+        state: &State,
+        steps: &mut Steps<L>,
+    ) -> Result<Option<Found>, Memory> {
+        search_turn(self, state, steps)
+    }
+
+    fn explain(
+        &self,
+        initial: &State,
+        now: &State,
+        target: Option<Atom>,
+    ) -> Result<Vec<Atom>, Memory> {
+        search_explanation(self, initial, now, target)
     }
 }

@@ -41,7 +41,7 @@ fn state_of(alloc: Global, b: (i64, i64), x: (i64, i64), y: (i64, i64)) -> Resul
 }
 
 // Whether the state has a set for each variable of the rule.
-fn covers_scope<R: Rule>(rule: &R, state: &State) -> bool
+fn covers_scope<R: Test>(rule: &R, state: &State) -> bool
     ensures { IsTrue result → Covers (R.face rule.now).scope state.now }
 {
     for place in 0..rule.scope_len() {
@@ -54,7 +54,7 @@ fn covers_scope<R: Rule>(rule: &R, state: &State) -> bool
 }
 
 // Whether the rule clashes; None where the state lacks one of its variables.
-fn clash_of<R: Rule>(rule: &R, state: &State) -> Result<Option<bool>, Memory> {
+fn clash_of<R: Test>(rule: &R, state: &State) -> Result<Option<bool>, Memory> {
     if covers_scope(rule, state) {
         Ok(Some(rule.clash(state)?))
     } else {
@@ -233,7 +233,7 @@ fn what_is_put_in_is_shown(rt: HostRuntime) -> Result<(), Fail> {
 }
 
 // Whether the variables of the rule are 0, 1, 2 and so on, as many as there are.
-fn is_counted<R: Rule>(rule: &R, count: usize) -> bool {
+fn is_counted<R: Test>(rule: &R, count: usize) -> bool {
     for place in 0..rule.scope_len() {
         let VarId(var) = rule.scope_at(place);
         if var as usize != place {

@@ -7,8 +7,10 @@ ghost use Rattle.dp_domain.specs.Faces.{Covers};
 ghost use Rattle.dp_rule_clause.specs.RestrictionLaws.{within_deciding, within_exact, within_lawful, within_sound};
 ghost use Rattle.dp_rule_clause.specs.Restrictions.{ClashesWithin, MeetsWithin, Restriction, face_within, scope_of};
 
-use crate::{Atom, Dom, Memory, Rule, State, VarId};
+use crate::{Atom, Dom, Found, Memory, Rule, State, Steps, Test, VarId};
+use dp_domain::{search_explanation, search_turn};
 use std::marker::Model;
+use std::sync::ledger::Ledger;
 use thiserror::Error;
 
 /// Why a restriction is not made.
@@ -105,7 +107,7 @@ fn at_of_two(added: VarId, var: VarId, place: usize) -> VarId
     }
 }
 
-impl Rule for Within {
+impl Test for Within {
     ghost face = { face_within };
 
     ghost clashes = { ClashesWithin };
@@ -134,7 +136,30 @@ impl Rule for Within {
         }
     }
 
+    fn is_point(&self, _var: VarId, _value: i64) -> bool {
+        false
+    }
+
     fn clash(&self, state: &State) -> Result<bool, Memory> {
         Ok(state.dead() || self.in_force(state) && !state.set(self.var).shares(&self.set))
+    }
+}
+
+impl Rule for Within {
+    fn next<L: Ledger>(
+        &self,
+        state: &State,
+        steps: &mut Steps<L>,
+    ) -> Result<Option<Found>, Memory> {
+        search_turn(self, state, steps)
+    }
+
+    fn explain(
+        &self,
+        initial: &State,
+        now: &State,
+        target: Option<Atom>,
+    ) -> Result<Vec<Atom>, Memory> {
+        search_explanation(self, initial, now, target)
     }
 }

@@ -2,7 +2,7 @@
 use Rattle.std.proofs.Common.{◌<◌, length, sym, subst, ◌∙◌}
 use Rattle.dp_base.specs.Lists.{Each}
 use Rattle.dp_rule_clause.proofs.AtomSteps.{atoms_covered}
-use Rattle.dp_rule_clause.proofs.nogood.NogoodRule.clash.Goals as goal
+use Rattle.dp_rule_clause.proofs.nogood.NogoodTest.clash.Goals as goal
 
 pub are_entailed-requires : goal.are_entailed-requires
 are_entailed-requires c =
