@@ -1,14 +1,14 @@
 -- The laws of a nogood.
-use Rattle.std.specs.Prelude.{◌≡◌, ℕ, ◌<◌, Bool, true, false, ◌&&◌, ◌||◌, ◌⊎◌, ◌↔◌, List, [], ◌∷◌, length, map, ℤ}
+use Rattle.std.specs.Prelude.{◌≡◌, ℕ, ◌<◌, Bool, true, false, ◌&&◌, ◌||◌, ◌↔◌, List, [], ◌∷◌, length, ℤ}
 use Rattle.std.specs.List.{list_all}
 use Rattle.std.proofs.Common.{refl, sym, ◌∙◌, ap, subst, inl, inr}
 use Rattle.std.proofs.lemmas.Bool.{both_ways, false_from_ne_true, true_from_ne_false, or_cases, or_left, or_right}
-use Rattle.dp_base.specs.Lists.{Among, Each}
+use Rattle.dp_base.specs.Lists.{Among}
 use Rattle.dp_base.proofs.Lists.{Each-among, list_all-at, list_all-from}
 use Rattle.dp_base.proofs.ScopeLaws.{among_in_order, climbs_in_order}
 use Rattle.dp_domain.specs.Atoms.{Atomic, meets}
 use Rattle.dp_domain.specs.Faces.{AgreesOn, Covers, Fixes, IsLawful}
-use Rattle.dp_domain.specs.States.{Domains, LiesIn, IsWithin, entails, entails_all, is_dead, values}
+use Rattle.dp_domain.specs.States.{Domains, LiesIn, IsWithin, entails, entails_all, is_dead}
 use Rattle.dp_domain.proofs.StateLaws.{LiesIn-alive, LiesIn-entails, dead-within, entails-at, entails-from, entails_all-within}
 use Rattle.dp_rule_clause.specs.Nogoods.{ClashesNogood, MeetsNogood, face_nogood, scope_of, test_nogood, variables}
 

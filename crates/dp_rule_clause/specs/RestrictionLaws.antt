@@ -1,14 +1,13 @@
 -- The laws of a restriction.
-use Rattle.std.specs.Prelude.{◌≡◌, ℕ, ◌<◌, Bool, true, false, not, ◌&&◌, ◌||◌, ◌⊎◌, ◌↔◌, List, [], ◌∷◌, length, ℤ}
-use Rattle.std.specs.List.{list_any}
+use Rattle.std.specs.Prelude.{◌≡◌, ℕ, ◌<◌, Bool, true, false, not, ◌&&◌, ◌||◌, ◌↔◌, [], ◌∷◌, length, ℤ}
 use Rattle.std.proofs.Common.{refl, sym, ◌∙◌, ap, subst, inl, inr}
 use Rattle.std.proofs.lemmas.Bool.{false≢true, both_ways, false_from_ne_true, not_from_false}
-use Rattle.dp_base.specs.Lists.{Among, Each}
+use Rattle.dp_base.specs.Lists.{Among}
 use Rattle.dp_base.proofs.Lists.{Each-among}
 use Rattle.dp_base.proofs.ScopeLaws.{among_in_order, climbs_in_order}
-use Rattle.dp_domain.specs.Conditions.{Fails, in_force, with_condition}
-use Rattle.dp_domain.specs.Faces.{AgreesOn, Covers, Fixes, IsLawful}
-use Rattle.dp_domain.specs.Sets.{is_among, share}
+use Rattle.dp_domain.specs.Conditions.{in_force, with_condition}
+use Rattle.dp_domain.specs.Faces.{Covers, Fixes, IsLawful}
+use Rattle.dp_domain.specs.Sets.{share}
 use Rattle.dp_domain.specs.States.{Domains, LiesIn, IsWithin, is_dead, values}
 use Rattle.dp_domain.proofs.ConditionLaws.{among_with_condition, in_force-fixed, in_force-from_fixed, in_force-local, in_force-sound, in_force-within, test_cases, test_dead, test_over}
 use Rattle.dp_domain.proofs.ShareLaws.{share-at, share-none}
