@@ -8,7 +8,7 @@ use std::test::Fail;
 
 const BOUND: i64 = 1_000_000_000;
 
-fn atom(var: u32, op: Op, value: i64) -> Atom {
+pub(crate) fn atom(var: u32, op: Op, value: i64) -> Atom {
     match Atom::new(VarId(var), op, value) {
         Some(atom) => atom,
         None => Atom::default(),
@@ -23,7 +23,7 @@ fn atoms(alloc: Global, rows: &[(u32, Op, i64)]) -> Result<Vec<Atom>, Memory> {
     Ok(atoms)
 }
 
-fn nogood(alloc: Global, rows: &[(u32, Op, i64)]) -> Result<Nogood, Memory> {
+pub(crate) fn nogood(alloc: Global, rows: &[(u32, Op, i64)]) -> Result<Nogood, Memory> {
     Nogood::new(alloc, atoms(alloc, rows)?.as_slice())
 }
 
@@ -32,7 +32,12 @@ fn range(alloc: Global, first: i64, last: i64) -> Result<Dom, Memory> {
 }
 
 // Three variables with the numbers between these ends.
-fn state_of(alloc: Global, b: (i64, i64), x: (i64, i64), y: (i64, i64)) -> Result<State, Memory> {
+pub(crate) fn state_of(
+    alloc: Global,
+    b: (i64, i64),
+    x: (i64, i64),
+    y: (i64, i64),
+) -> Result<State, Memory> {
     let mut sets = Vec::new(alloc);
     sets.push(range(alloc, b.0, b.1)?)?;
     sets.push(range(alloc, x.0, x.1)?)?;
@@ -41,7 +46,7 @@ fn state_of(alloc: Global, b: (i64, i64), x: (i64, i64), y: (i64, i64)) -> Resul
 }
 
 // Whether the state has a set for each variable of the rule.
-fn covers_scope<R: Test>(rule: &R, state: &State) -> bool
+pub(crate) fn covers_scope<R: Test>(rule: &R, state: &State) -> bool
     ensures { IsTrue result → Covers (R.face rule.now).scope state.now }
 {
     for place in 0..rule.scope_len() {
