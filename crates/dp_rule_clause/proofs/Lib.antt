@@ -1,0 +1,3 @@
+pub mod AtomSteps
+pub mod ScopeSteps
+pub mod OrderSteps

@@ -1,0 +1,4 @@
+pub mod Nogoods
+pub mod Restrictions
+pub mod NogoodLaws
+pub mod RestrictionLaws
