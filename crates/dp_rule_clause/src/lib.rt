@@ -11,5 +11,3 @@ pub use within::{BadCondition, Within};
 
 #[cfg(test)]
 mod tests;
-#[cfg(test)]
-mod turn_tests;
