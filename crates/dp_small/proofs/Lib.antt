@@ -1,12 +1,14 @@
 pub mod AnswerLaws
 mod Arms
 mod Cuts
+mod DeclareLaws
 mod FieldLaws
 mod LineLaws
 mod LogLaws
 mod Loops
 mod NumberLaws
 mod PieceLaws
+mod ProblemLaws
 mod SpellingLaws
 pub mod Solutions
 mod Steps

@@ -1,8 +1,8 @@
 // Models in the small form.
 
-ghost use Rattle.std.specs.Prelude.{◌≡◌, ℕ, ◌-◌, ◌^◌, ◌≤◌, ◌++◌, [], ◌∷◌, List, None, Some, IfNone, IfOk, IfSome, IsErrOf, MatchOption, length, map, min};
+ghost use Rattle.std.specs.Prelude.{◌≡◌, ℕ, ◌-◌, ◌^◌, ◌≤◌, ◌++◌, [], ◌∷◌, List, None, Some, IfNone, IfOk, IfSome, IsErrOf, MatchOption, OnOk, length, map, min};
 ghost use Rattle.std.specs.List.{flat_map, sum_by};
-ghost use Rattle.dp_base.specs.Lists.{Each};
+ghost use Rattle.dp_base.specs.Lists.{Among, Each};
 ghost use Rattle.dp_small.specs.declared.fault.ModelFault.TheVariants.{NotBuilt};
 ghost use Rattle.dp_small.specs.Models.{Differ, Inequality, IsSmallModel, IsVariable, SmallModel, model_text, variable_text};
 ghost use Rattle.dp_small.specs.Problems.{linear_of, numbered, numbers, problem_of};
@@ -101,6 +101,37 @@ struct Variables {
     sets: Vec<Dom>,
 }
 
+/// Another name of the same bytes.
+fn copy_of(alloc: Global, name: &Name) -> Result<Name, Memory>
+    ensures { IfOk result (λ n. n ≡ name.now) }
+{
+    Ok(Name::new(name.bytes().to_vec(alloc)?))
+}
+
+/// The numbers that a variable may have.
+fn set_of(alloc: Global, variable: &Declared) -> Result<Dom, Memory>
+    requires { IsVariable (declared_of variable.now) }
+    ensures { IfOk result (λ d. d ≡ numbers variable.now.least variable.now.greatest) }
+{
+    Dom::range(alloc, variable.least, variable.greatest)
+}
+
+/// Adds a name under its variable, unless it is there.
+fn add_name(
+    names: &mut IndexMap<Name, VarId>,
+    name: Name,
+    var: VarId,
+) -> Result<(), ModelFault>
+    ensures added { OnOk result (names.new.entries ≡ names.old.entries ++ (name, var) ∷ []) }
+    ensures fresh { OnOk result (Among name (names_in names.old.entries) → ⊥) }
+    ensures there { IsErrOf result NotBuilt → Among name (names_in names.old.entries) }
+{
+    if names.insert(name, var)?.is_some() {
+        return Err(ModelFault::NotBuilt);
+    }
+    Ok(())
+}
+
 /// The variables as a problem has them.
 fn declare(alloc: Global, variables: &[Declared]) -> Result<Variables, ModelFault>
     requires each { Each IsVariable (map declared_of variables.now) }
@@ -115,12 +146,10 @@ fn declare(alloc: Global, variables: &[Declared]) -> Result<Variables, ModelFaul
     let mut own = Vec::new(alloc);
     let mut sets = Vec::new(alloc);
     for (place, variable) in variables.iter().enumerate() {
-        let name = Name::new(variable.name.bytes().to_vec(alloc)?);
-        if names.insert(name, VarId(place as u32))?.is_some() {
-            return Err(ModelFault::NotBuilt);
-        }
+        let name = copy_of(alloc, &variable.name)?;
+        add_name(&mut names, name, VarId(place as u32))?;
         own.push(place as u32)?;
-        sets.push(Dom::range(alloc, variable.least, variable.greatest)?)?;
+        sets.push(set_of(alloc, variable)?)?;
     }
     Ok(Variables { names, own, sets })
 }
