@@ -14,3 +14,5 @@ pub use refusal::LinRefusal;
 
 #[cfg(test)]
 mod tests;
+#[cfg(test)]
+mod turn_tests;

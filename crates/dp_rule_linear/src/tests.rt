@@ -100,7 +100,7 @@ fn state_of(alloc: Global, b: (i64, i64), x: (i64, i64), y: (i64, i64)) -> Resul
 }
 
 // Whether the state has a set for each variable of the rule.
-fn covers_scope<R: Test>(rule: &R, state: &State) -> bool
+pub(crate) fn covers_scope<R: Test>(rule: &R, state: &State) -> bool
     ensures { IsTrue result → Covers (R.face rule.now).scope state.now }
 {
     for place in 0..rule.scope_len() {

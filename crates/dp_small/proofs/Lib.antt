@@ -5,6 +5,8 @@ mod DeclareLaws
 mod FieldLaws
 mod LineLaws
 mod LogLaws
+mod FrontLaws
+mod InequalityLaws
 mod Loops
 mod NumberLaws
 mod PieceLaws
