@@ -1,9 +1,11 @@
 -- The variables that are declared so far, one by one.
 use Rattle.std.proofs.Common.{◌≡◌, ℕ, suc, ◌+◌, ◌<◌, ◌≤◌, List, [], ◌∷◌, ◌++◌, length, take, drop, map, get_or, refl, sym, ap, subst, ◌∙◌, arith, add-one, drop-cons}
-use Rattle.std.specs.Prelude.{ℤ}
+use Rattle.std.specs.Prelude.{ℤ, Result, Err, IsErrOf}
 use Rattle.std.proofs.lemmas.List.{length-map, map_push, map-append, take_more, take-append-drop, length-take}
 use Rattle.dp_base.specs.Lists.{Among, Each}
 use Rattle.dp_base.proofs.Lists.{Each-get_or}
+use Rattle.dp_small.specs.declared.fault.ModelFault.{ModelFault}
+use Rattle.dp_small.specs.declared.fault.ModelFault.TheVariants.{NotBuilt}
 use Rattle.dp_small.specs.declared.model.Declared.{Declared}
 use Rattle.dp_small.specs.Models.{Differ, IsVariable}
 use Rattle.dp_small.specs.Problems.{numbered, numbers}
@@ -71,3 +73,7 @@ variable_at vs i d lt at each = subst (λ (x : Declared). IsVariable (declared_o
         unmapped : (vs : List Declared) → Each IsVariable (map declared_of vs) → Each (λ x. IsVariable (declared_of x)) vs
         unmapped [] h = tt
         unmapped (v ∷ vs) h = (h.0, unmapped vs h.1)
+
+-- a fault that is passed on is the fault
+pub refused : {X Y : Type 0} (r : Result X ModelFault) (g f : ModelFault) → r ≡ Err g → g ≡ f → IsErrOf r NotBuilt → IsErrOf {T = Y} (Err f) NotBuilt
+refused r g f was same e = cc
