@@ -6,8 +6,10 @@ mod LineLaws
 mod LogLaws
 mod Loops
 mod NumberLaws
+mod PartLaws
 mod PieceLaws
 mod SpellingLaws
 pub mod Solutions
 mod Steps
+mod TermLaws
 mod VariableLaws
