@@ -4,6 +4,8 @@ mod Cuts
 mod FieldLaws
 mod LineLaws
 mod LogLaws
+mod FrontLaws
+mod InequalityLaws
 mod Loops
 mod NumberLaws
 mod PartLaws
