@@ -3,6 +3,7 @@ mod Arms
 mod Cuts
 mod FieldLaws
 mod LineLaws
+mod LinearLaws
 mod LogLaws
 mod FrontLaws
 mod InequalityLaws

@@ -77,7 +77,7 @@ once_tail t ts h k = omega (arith, sum_by-cons (one k) t ts, h k)
 once_head : (t : ℤ × ℕ) (ts : List (ℤ × ℕ)) → Once (t ∷ ts) → (u : ℤ × ℕ) → Among u ts → u.1 ≢ t.1
 once_head t ts h u among same = omega (arith, sum_by-cons (one t.1) t ts, one_is t.1 t.1 refl, counted t.1 ts u among same, h t.1)
 
-rises_tail : (t : ℤ × ℕ) (ts : List (ℤ × ℕ)) → IsNonDecreasingBy (λ u. u.1) (t ∷ ts) → IsNonDecreasingBy (λ u. u.1) ts
+pub rises_tail : (t : ℤ × ℕ) (ts : List (ℤ × ℕ)) → IsNonDecreasingBy (λ u. u.1) (t ∷ ts) → IsNonDecreasingBy (λ u. u.1) ts
 rises_tail t ts r i j d le lt = r (suc i) (suc j) d (omega arith) (omega arith)
 
 pub rises_up : (ts : List (ℤ × ℕ)) → IsNonDecreasingBy (λ u. u.1) ts → Once ts → Up ts
@@ -128,7 +128,7 @@ ordered_shuffles declared (t ∷ ts) =
 once_moved : (xs ys : List (ℤ × ℕ)) → IsPermutation xs ys → Once xs → Once ys
 once_moved xs ys moved once k = omega (arith, sum_by-IsPermutation (one k) xs ys moved, once k)
 
-among_moved : (xs ys : List (ℤ × ℕ)) → IsPermutation xs ys → (x : ℤ × ℕ) → Among x xs → Among x ys
+pub among_moved : (xs ys : List (ℤ × ℕ)) → IsPermutation xs ys → (x : ℤ × ℕ) → Among x xs → Among x ys
 among_moved xs ys moved x h = Among-from_contains x ys (Contains-permutation xs ys x moved (Contains-from_among x xs h))
 
 ordered_up : (declared : List (List ℕ)) (ts : List (ℤ × List ℕ)) → Once (map (placed declared) ts) → Up (ordered_terms declared ts)
