@@ -93,6 +93,10 @@ each_paired P declared (a ∷ numbers) (x ∷ names) ts e h =
     let same : (a, x) ∷ b.value ≡ ts = cc in
     subst (λ (us : List (ℤ × List ℕ)). Each (λ t. P t.0) (map (placed declared) us)) same (h.0, each_paired P declared numbers names b.value b.was h.1)
 
+read_is : (declared : List (List ℕ)) (limit : ℤ) (o : Option (List ℤ)) (numbers : List ℤ) (names : List (List ℕ)) (ts : List (ℤ × List ℕ)) → o ≡ Some numbers → paired numbers names ≡ Some ts
+    → (o >>= λ n. paired n names >>= when_terms declared limit) ≡ when_terms declared limit ts
+read_is declared limit o numbers names ts e f = rw (e, f) refl
+
 terms_placed : (declared : List (List ℕ)) (coefficients names : List ℕ) (ps : List (ℤ × ℕ)) → terms_in declared coefficients names ≡ Some ps → ArePlaced declared coefficients names ps
 terms_placed declared coefficients names ps e =
     let fields = slice_split (λ b. eqb b 44) coefficients in
@@ -106,7 +110,7 @@ terms_placed declared coefficients names ps e =
       places = p.1;
       known = p.0;
       good = subst (λ (us : List (ℤ × ℕ)). Each (λ t. IsCoefficient t.0) us) p.1 (each_paired IsCoefficient declared n.value words t.value t.was f.1);
-      read = λ limit. rw (n.was, t.was) refl;
+      read = λ limit. read_is declared limit (read_all coefficient_of fields) n.value words t.value n.was t.was;
     }
 
 -- ---- proper forms
@@ -144,7 +148,7 @@ later_up (t ∷ ts) r h =
 
 module _ (declared : List (List ℕ)) (coefficients names : List ℕ) (ps ys : List (ℤ × ℕ)) (limit : ℤ) where
   known_length : (placed_terms : ArePlaced declared coefficients names ps) → IsPermutation ps ys → length ys ≡ length placed_terms.terms
-  known_length h moved = length_permutation ps ys moved ∙ ap (λ (us : List (ℤ × ℕ)). length us) (sym h.places) ∙ length-map (placed declared) h.terms
+  known_length h moved = length_permutation ps ys moved ∙ ap (λ (us : List (ℤ × ℕ)). length us) (sym h.places) ∙ length-map h.terms (placed declared)
 
   proper_terms : (h : ArePlaced declared coefficients names ps) → IsPermutation ps ys → IsNonDecreasingBy (λ u. u.1) ys → IsProper (form_of None ys limit)
       → (are_terms declared h.terms ≡ true) × (ys ≡ ordered_terms declared h.terms)
