@@ -10,6 +10,7 @@ mod InequalityLaws
 mod Loops
 mod NumberLaws
 mod PartLaws
+mod PartsLaws
 mod PieceLaws
 mod SpellingLaws
 pub mod Solutions

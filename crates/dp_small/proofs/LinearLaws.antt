@@ -1,6 +1,6 @@
 -- The linear form of an inequality: what is read is proper exactly where its line spells an inequality.
 use Rattle.std.proofs.Common.{◌≡◌, ◌≢◌, ℕ, zero, suc, ◌+◌, ◌^◌, ◌<◌, ◌≤◌, Bool, true, false, cond, eqb, leb, ◌&&◌, List, [], ◌∷◌, length, map, get_or, Option, Some, None, refl, sym, ap, subst, ◌∙◌, arith, inl, inr}
-use Rattle.std.specs.Prelude.{ℤ, pos, neg_ℤ, ◌≤ℤ◌}
+use Rattle.std.specs.Prelude.{ℤ, pos, neg_ℤ, ◌≤ℤ◌, Err, IsErrOf}
 use Rattle.std.specs.List.{slice_split}
 use Rattle.std.specs.List.Sorted.{IsNonDecreasingBy, IsPermutation}
 use Rattle.std.proofs.lemmas.Bool.{and_from, and_parts, cases_Bool, le-leb, leb-true}
@@ -14,9 +14,11 @@ use Rattle.dp_rule_linear.specs.Refusals.{IsRefused}
 use Rattle.dp_rule_linear.specs.declared.refusal.LinRefusal.{LinRefusal}
 use Rattle.dp_rule_linear.proofs.RefusalLaws.{never_refused}
 use Rattle.dp_lines.specs.Spelling.{signed}
+use Rattle.dp_small.specs.declared.fault.ModelFault.{ModelFault}
+use Rattle.dp_small.specs.declared.fault.ModelFault.TheVariants.{NotBuilt, Memory}
 use Rattle.dp_small.specs.Models.{Inequality}
 use Rattle.dp_small.specs.Problems.{linear_of, ordered_terms}
-use Rattle.dp_small.specs.Reading.{◌>>=◌, integer_of, read_all}
+use Rattle.dp_small.specs.Reading.{◌>>=◌, Fails, integer_of, read_all}
 use Rattle.dp_small.specs.ReadModels.{are_apart, are_terms, coefficient_of, inequality_of, lists_of, paired, place_in, terms_in}
 use Rattle.dp_small.proofs.FieldLaws.{read_all_found}
 use Rattle.dp_small.proofs.InequalityLaws.{IsCoefficient, coefficient_found}
@@ -198,3 +200,8 @@ module _ (declared : List (List ℕ)) (line : List ℕ) (lists : List ℕ × Lis
             let none : when_terms declared limit h.terms ≡ None = rw isnt refl in
             inequality_is declared line lists limit e f ∙ h.read limit ∙ none
       ]
+
+-- a fault that is told says that nothing was read
+pub unread : {X Y : Type 0} (fault : ModelFault) (o : Option Y) → Fails fault o → IsErrOf {T = X} (Err fault) NotBuilt → o ≡ None
+unread NotBuilt o none is = none
+unread Memory o free is = absurd cc

@@ -1,6 +1,5 @@
 use Rattle.std.proofs.Common.{rules}
 use Rattle.std.proofs.lemmas.List.Sorted.{IsNonDecreasingBy-from_sort_by_key}
-use Rattle.dp_small.proofs.LinearLaws.{part_read}
 use Rattle.dp_small.proofs.model.sorted.Goals as goal
 
 pub returns-clause-sorted : goal.returns-clause-sorted
