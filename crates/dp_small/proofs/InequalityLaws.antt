@@ -136,10 +136,10 @@ nonzero (pos (suc n)) h = and_right (leb 0 (suc n)) (leb (suc n) 0) (lt-leb (suc
 nonzero (negsuc n) h = refl
 
 -- a number that a coefficient may be
-abbrev IsCoefficient : ℤ → Type 0
+abbrev pub IsCoefficient : ℤ → Type 0
 IsCoefficient a = IsSmall a × (a ≢ pos 0)
 
-coefficient_found : (bytes : List ℕ) (a : ℤ) → coefficient_of bytes ≡ Some a → (bytes ≡ signed a) × IsCoefficient a
+pub coefficient_found : (bytes : List ℕ) (a : ℤ) → coefficient_of bytes ≡ Some a → (bytes ≡ signed a) × IsCoefficient a
 coefficient_found bytes a e =
     let b = bound (small_of bytes) (λ x. cond (is_zero x) None (Some x)) a e in
     let m = not_met (is_zero b.value) b.value a b.next in

@@ -4,14 +4,18 @@ mod Cuts
 mod DeclareLaws
 mod FieldLaws
 mod LineLaws
+mod LinearLaws
 mod LogLaws
 mod FrontLaws
 mod InequalityLaws
 mod Loops
 mod NumberLaws
+mod PartLaws
+mod PartsLaws
 mod PieceLaws
 mod ProblemLaws
 mod SpellingLaws
 pub mod Solutions
 mod Steps
+mod TermLaws
 mod VariableLaws

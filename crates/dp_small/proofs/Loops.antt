@@ -14,7 +14,7 @@ pub with_none : {B : Type 0} (o : Option (List B)) → with_front [] o ≡ o
 with_none None = refl
 with_none (Some ys) = refl
 
-regroup : {B : Type 0} (front : List B) (y : B) (o : Option (List B)) → with_front front (o >>= λ ys. Some (y ∷ ys)) ≡ with_front (front ++ y ∷ []) o
+pub regroup : {B : Type 0} (front : List B) (y : B) (o : Option (List B)) → with_front front (o >>= λ ys. Some (y ∷ ys)) ≡ with_front (front ++ y ∷ []) o
 regroup front y None = refl
 regroup {B = B} front y (Some ys) = ap (λ (zs : List B). Some zs) (sym (append_assoc front (y ∷ []) ys))
 
