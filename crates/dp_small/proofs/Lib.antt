@@ -9,6 +9,7 @@ mod LogLaws
 mod FrontLaws
 mod InequalityLaws
 mod Loops
+mod ModelLaws
 mod NumberLaws
 mod PartLaws
 mod PartsLaws

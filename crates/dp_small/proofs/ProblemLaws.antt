@@ -80,7 +80,7 @@ pub names_numbered : (n : ℕ) (xs : List (List ℕ)) → names_in (numbered n x
 names_numbered n [] = refl
 names_numbered n (x ∷ xs) = ap (λ (ys : List (List ℕ)). x ∷ ys) (names_numbered (n + 1) xs)
 
-places_same : {A B : Type 0} (n : ℕ) (xs : List A) (ys : List B) → length xs ≡ length ys → map (λ e. e.1) (numbered n xs) ≡ map (λ e. e.1) (numbered n ys)
+pub places_same : {A B : Type 0} (n : ℕ) (xs : List A) (ys : List B) → length xs ≡ length ys → map (λ e. e.1) (numbered n xs) ≡ map (λ e. e.1) (numbered n ys)
 places_same n [] [] e = refl
 places_same n [] (y ∷ ys) e = absurd (omega arith)
 places_same n (x ∷ xs) [] e = absurd (omega arith)
