@@ -1,5 +1,5 @@
 -- The variables that are declared so far, one by one.
-use Rattle.std.proofs.Common.{◌≡◌, ℕ, suc, ◌+◌, ◌<◌, ◌≤◌, List, [], ◌∷◌, ◌++◌, length, take, drop, map, get_or, refl, sym, ap, subst, ◌∙◌, arith, add-one, drop-cons}
+use Rattle.std.proofs.Common.{◌≡◌, ℕ, suc, ◌+◌, ◌<◌, List, [], ◌∷◌, ◌++◌, length, take, drop, map, get_or, refl, sym, ap, subst, ◌∙◌, arith, drop-cons}
 use Rattle.std.specs.Prelude.{ℤ, Result, Err, IsErrOf}
 use Rattle.std.proofs.lemmas.List.{length-map, map_push, map-append, take_more, take-append-drop, length-take}
 use Rattle.dp_base.specs.Lists.{Among, Each}

@@ -1,15 +1,15 @@
 -- The linear form of an inequality: what is read is proper exactly where its line spells an inequality.
-use Rattle.std.proofs.Common.{◌≡◌, ◌≢◌, ℕ, zero, suc, ◌+◌, ◌^◌, ◌<◌, ◌≤◌, Bool, true, false, cond, eqb, leb, ◌&&◌, List, [], ◌∷◌, length, map, get_or, Option, Some, None, refl, sym, ap, subst, ◌∙◌, arith, inl, inr}
-use Rattle.std.specs.Prelude.{ℤ, pos, neg_ℤ, ◌≤ℤ◌, Err, IsErrOf}
+use Rattle.std.proofs.Common.{◌≡◌, ℕ, zero, suc, ◌+◌, ◌<◌, ◌≤◌, true, cond, eqb, leb, ◌&&◌, List, [], ◌∷◌, length, map, get_or, Option, Some, None, refl, sym, ap, subst, ◌∙◌, arith, inl, inr}
+use Rattle.std.specs.Prelude.{ℤ, pos, Err, IsErrOf}
 use Rattle.std.specs.List.{slice_split}
 use Rattle.std.specs.List.Sorted.{IsNonDecreasingBy, IsPermutation}
 use Rattle.std.proofs.lemmas.Bool.{and_from, and_parts, cases_Bool, le-leb, leb-true}
 use Rattle.std.proofs.lemmas.Int.{ints}
 use Rattle.std.proofs.lemmas.List.{get_or_default, length-map}
 use Rattle.std.proofs.lemmas.List.Sorted.{IsPermutation-sym, length_permutation}
-use Rattle.dp_base.specs.Lists.{Among, Each}
-use Rattle.dp_base.proofs.Lists.{Among-get_or, Each-among, Each-from_all, Each-from_among, Each-get_or}
-use Rattle.dp_rule_linear.specs.Forms.{IsBounded, IsGoodAt, IsProper, form_of, term_at}
+use Rattle.dp_base.specs.Lists.{Each}
+use Rattle.dp_base.proofs.Lists.{Each-among, Each-from_all, Each-from_among, Each-get_or}
+use Rattle.dp_rule_linear.specs.Forms.{IsGoodAt, IsProper, form_of, term_at}
 use Rattle.dp_rule_linear.specs.Refusals.{IsRefused}
 use Rattle.dp_rule_linear.specs.declared.refusal.LinRefusal.{LinRefusal}
 use Rattle.dp_rule_linear.proofs.RefusalLaws.{never_refused}
@@ -144,9 +144,10 @@ later_tail t ts h j lt =
 
 later_up : (ts : List (ℤ × ℕ)) → IsNonDecreasingBy (λ u. u.1) ts → Later ts → Up ts
 later_up [] r h = tt
-later_up (t ∷ ts) r h =
-    (Each-from_all (λ (u : ℤ × ℕ). t.1 < u.1) ts (λ k d lt. (let a = h 0 (omega arith) in let b = rises_tail t ts r 0 k (pos 0, 0) (omega arith) lt in rw (get_or_default ts k d (pos 0, 0) lt) (omega (arith, a, b)))),
-    later_up ts (rises_tail t ts r) (later_tail t ts h))
+later_up (t ∷ ts) r h = (
+  Each-from_all (λ (u : ℤ × ℕ). t.1 < u.1) ts (λ k d lt. (let a = h 0 (omega arith) in let b = rises_tail t ts r 0 k (pos 0, 0) (omega arith) lt in rw (get_or_default ts k d (pos 0, 0) lt) (omega (arith, a, b)))),
+  later_up ts (rises_tail t ts r) (later_tail t ts h),
+)
 
 module _ (declared : List (List ℕ)) (coefficients names : List ℕ) (ps ys : List (ℤ × ℕ)) (limit : ℤ) where
   known_length : (placed_terms : ArePlaced declared coefficients names ps) → IsPermutation ps ys → length ys ≡ length placed_terms.terms
@@ -161,7 +162,7 @@ module _ (declared : List (List ℕ)) (coefficients names : List ℕ) (ps ys : L
       let few : length ys ≤ 2000000 = proper.few in
       let le : length h.terms ≤ 2000000 = omega (arith, few, known_length h moved) in (
         and_from (all_declared declared h.terms) (are_apart (map (λ t. t.1) h.terms) && leb (length h.terms) 2000000) h.known
-        (and_from (are_apart (map (λ t. t.1) h.terms)) (leb (length h.terms) 2000000) (once_apart declared h.terms once) (le-leb (length h.terms) 2000000 le)),
+            (and_from (are_apart (map (λ t. t.1) h.terms)) (leb (length h.terms) 2000000) (once_apart declared h.terms once) (le-leb (length h.terms) 2000000 le)),
         (sorted_once declared h.terms ys moved' rises once).0,
       )
 

@@ -1,5 +1,5 @@
 -- A model is read exactly from its text.
-use Rattle.std.proofs.Common.{◌≡◌, ℕ, Bool, true, false, not, ◌+◌, ◌-◌, ◌*◌, ◌^◌, ◌<◌, ◌≤◌, List, [], ◌∷◌, ◌++◌, length, map, refl, sym, ap, subst, ◌∙◌, append_assoc, arith}
+use Rattle.std.proofs.Common.{◌≡◌, ℕ, Bool, true, false, not, ◌-◌, ◌^◌, ◌<◌, ◌≤◌, List, [], ◌∷◌, ◌++◌, length, map, refl, sym, ap, subst, ◌∙◌, append_assoc, arith}
 use Rattle.std.specs.Prelude.{ℤ, None, codes, min}
 use Rattle.std.specs.List.{flat_map, sum_by}
 use Rattle.std.specs.Str.{bytes_eq}
@@ -7,14 +7,13 @@ use Rattle.std.proofs.lemmas.List.{length-map}
 use Rattle.std.proofs.lemmas.List.Sums.{sum_by-cons}
 use Rattle.std.proofs.lemmas.Slice.Eq.{bytes_eq-Decides}
 use Rattle.dp_base.specs.Lists.{Each}
-use Rattle.dp_base.specs.Names.{is_name}
 use Rattle.dp_parts.specs.declared.goal.Goal.TheVariants.{Satisfy}
 use Rattle.dp_parts.specs.declared.part.Part.{Part}
 use Rattle.dp_parts.specs.Problems.{Csp, IsProblem}
 use Rattle.dp_small.specs.declared.model.Declared.{Declared}
-use Rattle.dp_small.specs.Models.{Differ, Inequality, IsInequality, IsSmallModel, IsVariable, SmallModel, Variable, inequality_text, model_text, names_of, variable_text}
+use Rattle.dp_small.specs.Models.{Differ, Inequality, IsSmallModel, IsVariable, SmallModel, Variable, inequality_text, model_text, names_of, variable_text}
 use Rattle.dp_small.specs.Problems.{numbered, numbers, part_of, problem_of}
-use Rattle.dp_small.specs.ReadModels.{AreNumbered, ReadsAs, declared_of, inequality_of, names_in, next_of, variable_of}
+use Rattle.dp_small.specs.ReadModels.{AreNumbered, ReadsAs, declared_of, names_in, next_of, variable_of}
 use Rattle.dp_small.proofs.FrontLaws.{names_are, no_inequality, no_variable, reads_same, reads_spelled, variables_same}
 use Rattle.dp_small.proofs.ProblemLaws.{names_numbered, places_same, problem_of_is_problem}
 
@@ -96,16 +95,18 @@ read_is_model text behind tail ds qs entries read table reads differ short few f
     let whole : text ≡ model_text (model_of ds qs) =
     read.spelled ∙ ap (λ (t : List ℕ). flat_map variable_text (map declared_of ds) ++ t) (spelled.0 ∙ ap (λ (t : List ℕ). flat_map inequality_text qs ++ t) end)
     ∙ grouped (flat_map variable_text (map declared_of ds)) (flat_map inequality_text qs) (codes "solve satisfy;") (10 ∷ []) in
-    let n : length (map declared_of ds) ≡ length ds = length-map ds declared_of in
-    (record {
-      variables = read.variables;
-      names = subst Differ (sym (declared_names ds)) differ;
-      inequalities = spelled.1;
-      few_variables = omega (arith, n, few);
-      few_inequalities = fewer;
-      few_elements = omega (arith, elements);
-      short = subst (λ (t : List ℕ). length t ≤ 67108864) whole short;
-    }, whole)
+    let n : length (map declared_of ds) ≡ length ds = length-map ds declared_of in (
+      record {
+        variables = read.variables;
+        names = subst Differ (sym (declared_names ds)) differ;
+        inequalities = spelled.1;
+        few_variables = omega (arith, n, few);
+        few_inequalities = fewer;
+        few_elements = omega (arith, elements);
+        short = subst (λ (t : List ℕ). length t ≤ 67108864) whole short;
+      },
+      whole,
+    )
 
 same_problem : (names : List (List ℕ × ℕ)) (own : List ℕ) (initial : List (List ℤ)) (parts : List (List Part)) (p : Csp)
     → names ≡ p.names → own ≡ p.own → initial ≡ p.initial → parts ≡ p.parts → Satisfy ≡ p.goal → record { names = names; own = own; initial = initial; parts = parts; goal = Satisfy } ≡ p

@@ -1,13 +1,12 @@
 -- The problem of a model keeps what every problem keeps, and what its variables are made of.
-use Rattle.std.proofs.Common.{◌≡◌, ℕ, zero, suc, ◌+◌, ◌-◌, ◌*◌, ◌^◌, ◌<◌, ◌≤◌, ◌⊎◌, Bool, true, false, cond, not, ltb, List, [], ◌∷◌, ◌++◌, length, take, map, get_or, Option, Some, None, slice_get, is_some, refl, sym, ap, subst, ◌∙◌, arith, inl, inr}
-use Rattle.std.specs.Prelude.{IfOk, Result, Ok, Err, ℤ, pos, negsuc, neg_ℤ, ◌+ℤ◌, ◌-ℤ◌, ◌≤ℤ◌, ◌<ℤ◌, int_lt}
-use Rattle.std.specs.List.{sum_by}
+use Rattle.std.proofs.Common.{◌≡◌, ℕ, zero, suc, ◌+◌, ◌^◌, ◌<◌, ◌≤◌, ◌⊎◌, Bool, true, false, cond, not, ltb, List, [], ◌∷◌, ◌++◌, length, map, get_or, Option, Some, None, slice_get, is_some, refl, sym, ap, subst, ◌∙◌, arith, inl, inr}
+use Rattle.std.specs.Prelude.{IfOk, Result, Ok, Err, ℤ, pos, negsuc, ◌+ℤ◌, ◌-ℤ◌, ◌≤ℤ◌, ◌<ℤ◌, int_lt}
 use Rattle.std.specs.Map.{lookup}
 use Rattle.std.specs.Option.{option_map}
 use Rattle.std.specs.Str.{bytes_eq}
 use Rattle.std.proofs.lemmas.Bool.{cases_Bool}
 use Rattle.std.proofs.lemmas.Int.{ints}
-use Rattle.std.proofs.lemmas.List.{length-map, map_push, take_more}
+use Rattle.std.proofs.lemmas.List.{length-map}
 use Rattle.std.proofs.lemmas.Option.{slice_get-map, slice_get-get_or, slice_get_within}
 use Rattle.std.proofs.lemmas.Slice.Eq.{bytes_eq-Decides}
 use Rattle.dp_base.specs.Lists.{Among, Each}
@@ -120,12 +119,13 @@ place_is {A = A} xs i place d e =
 
 pub Differ_push : (xs : List (List ℕ)) (x : List ℕ) → Differ xs → (Among x xs → ⊥) → Differ (xs ++ x ∷ [])
 Differ_push [] x differ fresh = (λ a. a, tt)
-Differ_push (y ∷ xs) x differ fresh =
-    (λ a. elim (Among-append_cases y xs (x ∷ []) a) [
-      | inl old ↦ differ.0 old
-      | inr new ↦ fresh (elim new [ inl e ↦ inl (sym e) | inr none ↦ absurd none ])
-    ],
-    Differ_push xs x differ.1 (λ a. fresh (inr a)))
+Differ_push (y ∷ xs) x differ fresh = (
+  λ a. elim (Among-append_cases y xs (x ∷ []) a) [
+    | inl old ↦ differ.0 old
+    | inr new ↦ fresh (elim new [ inl e ↦ inl (sym e) | inr none ↦ absurd none ])
+  ],
+  Differ_push xs x differ.1 (λ a. fresh (inr a)),
+)
 
 -- a name that stands in a front stands twice
 pub Differ_twice : (xs : List (List ℕ)) (x : List ℕ) (ys : List (List ℕ)) → Among x xs → Differ (xs ++ x ∷ ys) → ⊥
@@ -225,9 +225,9 @@ problem_of_is_problem m is =
       spelled = numbered_each (λ n. is_name n ≡ true) 0 (names_of m) (each_map (λ n. is_name n ≡ true) (λ (v : Variable). v.name) m.variables (Each-weaker IsVariable (λ v. is_name v.name ≡ true) (λ v h. h.name) m.variables is.variables));
       owned = n4 ∙ sym n2;
       own = λ x place e. (let p = place_is m.variables x place no_variable e in
-      let same = p.1 in
-      let lt : x < length (names_of m) = omega (arith, p.0, n1) in
-      (get_or (names_of m) x [], subst (λ (k : ℕ). slice_get (numbered 0 (names_of m)) k ≡ Some (get_or (names_of m) x [], x)) (sym same) (numbered_at (names_of m) x [] lt)));
+          let same = p.1 in
+          let lt : x < length (names_of m) = omega (arith, p.0, n1) in
+          (get_or (names_of m) x [], subst (λ (k : ℕ). slice_get (numbered 0 (names_of m)) k ≡ Some (get_or (names_of m) x [], x)) (sym same) (numbered_at (names_of m) x [] lt)));
       parts = each_map (Each (λ q. Covers (face_of q).scope (problem_of m).initial)) (λ (q : Inequality). part_of (names_of m) q ∷ []) m.inequalities
           (Each-weaker (IsInequality (names_of m)) (λ q. Each (λ p. Covers (face_of p).scope (problem_of m).initial) (part_of (names_of m) q ∷ []))
           (λ q h. (part_covers (names_of m) q (problem_of m).initial (n1 ∙ sym n2) h, tt)) m.inequalities is.inequalities);

@@ -118,11 +118,7 @@ fn set_of(alloc: Global, variable: &Declared) -> Result<Dom, Memory>
 }
 
 /// Adds a name under its variable, unless it is there.
-fn add_name(
-    names: &mut IndexMap<Name, VarId>,
-    name: Name,
-    var: VarId,
-) -> Result<(), ModelFault>
+fn add_name(names: &mut IndexMap<Name, VarId>, name: Name, var: VarId) -> Result<(), ModelFault>
     ensures added { OnOk result (names.new.entries ≡ names.old.entries ++ (name, var) ∷ []) }
     ensures fresh { OnOk result (Among name (names_in names.old.entries) → ⊥) }
     ensures there { IsErrOf result NotBuilt → Among name (names_in names.old.entries) }
@@ -178,11 +174,7 @@ fn coefficient_of(bytes: &[u8]) -> Result<i64, ModelFault>
 }
 
 /// The variable of this name.
-fn place_of(
-    alloc: Global,
-    names: &IndexMap<Name, VarId>,
-    bytes: &[u8],
-) -> Result<VarId, ModelFault>
+fn place_of(alloc: Global, names: &IndexMap<Name, VarId>, bytes: &[u8]) -> Result<VarId, ModelFault>
     requires { AreNumbered names.now.entries }
     ensures { Gives (λ v. v) result (place_in (names_in names.now.entries) bytes.now) }
 {

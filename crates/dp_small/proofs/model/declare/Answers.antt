@@ -1,9 +1,9 @@
-use Rattle.std.proofs.Common.{List, ℕ, ◌≡◌, ◌<◌, ◌≤◌, length, take, arith, rules, sym, subst, ap}
+use Rattle.std.proofs.Common.{List, ℕ, sym, subst}
 use Rattle.std.proofs.lemmas.List.{take_all}
 use Rattle.std.proofs.lemmas.Result.{err_from_is_err_and}
 use Rattle.dp_base.specs.Lists.{Among}
 use Rattle.dp_small.specs.ReadModels.{names_in}
-use Rattle.dp_small.proofs.DeclareLaws.{AreMade, refused, made_more, made_twice, none_made, variable_at}
+use Rattle.dp_small.proofs.DeclareLaws.{refused, made_more, made_twice, none_made, variable_at}
 use Rattle.dp_small.proofs.model.declare.Goals as goal
 
 pub loop-place-init : goal.loop-place-init

@@ -1,4 +1,4 @@
-use Rattle.std.proofs.Common.{◌≡◌, ◌≤◌, ◌<◌, List, ℕ, length, arith, sym, ap, ◌∙◌}
+use Rattle.std.proofs.Common.{◌<◌, length, arith, sym, ◌∙◌}
 use Rattle.std.proofs.lemmas.Result.{err_from_is_err_and}
 use Rattle.dp_small.proofs.DeclareLaws.{refused}
 use Rattle.dp_small.proofs.ModelLaws.{AreMadeOf, IsReadOf, Keeps, keeps_is_model, made_is_problem, made_keeps_problem, many_variables, model_keeps, model_of, names_twice, not_other, other, table_numbered}
