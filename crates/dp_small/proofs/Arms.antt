@@ -1,5 +1,5 @@
 -- Fields of another number than a condition has.
-use Rattle.std.proofs.Common.{◌≡◌, ◌<◌, ◌≤◌, ℕ, suc, Bor, List, [], ◌∷◌, length, map, Option, None, refl, arith}
+use Rattle.std.proofs.Common.{◌≡◌, ◌<◌, ◌≤◌, ℕ, Bor, List, [], ◌∷◌, length, map, None, refl, arith}
 use Rattle.dp_small.specs.ReadLines.{condition_of}
 
 pub no_condition_below : (xs : List (Bor (List ℕ))) → length xs < 2 → condition_of (map (λ f. f.now) xs) ≡ None

@@ -1,11 +1,10 @@
 -- Each field of a line is read exactly from its spelling.
-use Rattle.std.proofs.Common.{◌≡◌, ◌≢◌, ℕ, zero, suc, ◌+◌, ◌^◌, ◌<◌, ◌≤◌, Bool, true, false, cond, not, eqb, leb, ◌&&◌, get_or, List, [], ◌∷◌, ◌++◌, length, map, Option, Some, None, refl, sym, ap, subst, ◌∙◌, append_assoc, arith, inl, inr}
-use Rattle.std.specs.Prelude.{ℤ, pos, negsuc, neg_ℤ, int_le, ◌≤ℤ◌, codes, unsigned_abs}
+use Rattle.std.proofs.Common.{◌≡◌, ℕ, zero, suc, ◌^◌, ◌≤◌, Bool, true, false, cond, not, eqb, leb, get_or, List, [], ◌∷◌, ◌++◌, map, Option, Some, None, refl, sym, ap, subst, ◌∙◌, arith, inl, inr}
+use Rattle.std.specs.Prelude.{ℤ, pos, negsuc, neg_ℤ, int_le, codes, unsigned_abs}
 use Rattle.std.specs.Fmt.{decimal}
 use Rattle.std.specs.Str.{bytes_eq}
-use Rattle.std.proofs.lemmas.Bool.{and_parts, eqb-false, ne_eqb, cases_Bool, not-true, and_right, lt-leb}
+use Rattle.std.proofs.lemmas.Bool.{eqb-false, ne_eqb, cases_Bool, not-true, and_right, lt-leb}
 use Rattle.std.proofs.lemmas.Int.{ints}
-use Rattle.std.proofs.lemmas.List.{append-nil}
 use Rattle.std.proofs.lemmas.Slice.Eq.{bytes_eq-Decides}
 use Rattle.dp_base.specs.Lists.{Each}
 use Rattle.dp_domain.proofs.AtomLaws.{lt-from_test, test-from_lt}
@@ -17,8 +16,8 @@ use Rattle.dp_lines.specs.Spelling.{op_text, signed}
 use Rattle.dp_small.specs.Reading.{◌>>=◌, after, cut, ended, integer_of, number_of, read_all}
 use Rattle.dp_small.specs.ReadLines.{constraint_of, is_nameable, is_nought, is_zero, label_of, literal_of, op_of, positive_of, value_of}
 use Rattle.dp_small.proofs.NumberLaws.{IsLarge, integer_again, integer_found, number_again, number_found}
-use Rattle.dp_small.proofs.PieceLaws.{IsOutside, after_again, after_found, byte_found, cut_again, signed_free}
-use Rattle.dp_small.proofs.Steps.{Bound, bound, not_met, passed}
+use Rattle.dp_small.proofs.PieceLaws.{after_again, after_found, byte_found, cut_again, signed_free}
+use Rattle.dp_small.proofs.Steps.{bound, not_met, passed}
 
 pub positive_found : (bytes : List ℕ) (n : ℕ) → positive_of bytes ≡ Some n → (bytes ≡ decimal n) × IsNumber n
 positive_found bytes n e =

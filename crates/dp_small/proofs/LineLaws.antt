@@ -1,5 +1,5 @@
 -- A line is read exactly from its fields.
-use Rattle.std.proofs.Common.{◌≡◌, ℕ, ◌^◌, ◌≤◌, Bool, true, false, cond, eqb, List, [], ◌∷◌, ◌++◌, length, map, Option, Some, None, refl, sym, ap, subst, ◌∙◌, inl, inr}
+use Rattle.std.proofs.Common.{◌≡◌, ℕ, Bool, true, false, cond, List, [], ◌∷◌, ◌++◌, map, Option, Some, None, refl, sym, ap, subst, ◌∙◌, inl, inr}
 use Rattle.std.specs.Prelude.{ℤ, codes, IfSome}
 use Rattle.std.specs.Fmt.{decimal}
 use Rattle.std.specs.Str.{bytes_eq}
@@ -24,7 +24,7 @@ use Rattle.dp_small.specs.Reading.{◌>>=◌, after, cut_at, name_of, read_all}
 use Rattle.dp_small.specs.ReadLines.{atom_by, atom_of, bracketed_of, clause_of, conclusion_of, condition_of, consequent_of, constraint_of, hints_of, inference_of, is_nought, kind_of, label_of, line_by, line_of, literal_of, nogood_of, op_of, positive_of, reason_of, value_of, with_consequent}
 use Rattle.dp_small.proofs.FieldLaws.{constraint_again, constraint_found, label_again, label_found, literal_again, literal_found, literals_not_nought, op_again, op_found, positive_again, positive_found, read_all_again, read_all_found, value_again, value_found}
 use Rattle.dp_small.proofs.PieceLaws.{after_again, after_found, cut_again, cut_found, cut_nowhere, name_again, name_found}
-use Rattle.dp_small.proofs.Steps.{Bound, bound, passed}
+use Rattle.dp_small.proofs.Steps.{bound, passed}
 
 -- the line is of this kind, behind its tag stand these fields, and it is one of the small form
 pub record IsLineOf (tag : List ℕ) (fields : List (List ℕ)) (line : Line) : Type 0 where

@@ -1,5 +1,5 @@
 -- How a log is judged line by line.
-use Rattle.std.proofs.Common.{◌≡◌, ◌≢◌, ℕ, ◌+◌, ◌≤◌, ◌<◌, Bool, true, false, cond, eqb, ◌⊎◌, List, [], ◌∷◌, ◌++◌, length, Option, Some, None, Result, Ok, Err, refl, sym, ap, subst, ◌∙◌, inl, inr, arith}
+use Rattle.std.proofs.Common.{◌≡◌, ℕ, ◌+◌, ◌≤◌, ◌<◌, Bool, true, false, cond, eqb, List, [], ◌∷◌, ◌++◌, length, Option, Some, None, Result, Ok, Err, refl, sym, ap, subst, ◌∙◌, inl, inr, arith}
 use Rattle.std.specs.Prelude.{IfSome, IsOk, MatchBool, is_some, ℤ}
 use Rattle.std.specs.Option.{option_map}
 use Rattle.std.proofs.lemmas.Bool.{cases_Bool, eqb-true, le-leb, lt-leb}
@@ -22,7 +22,7 @@ use Rattle.dp_checker.specs.Judged.{after, first_refusal, judge, outcome, verdic
 use Rattle.dp_checker.specs.Kept.{IsRight}
 use Rattle.dp_small.specs.declared.answer.LogAnswer.{LogAnswer}
 use Rattle.dp_small.specs.declared.answer.LogAnswer.TheVariants.{Accepted, NotBuilt, Refused}
-use Rattle.dp_small.specs.Judging.{GoesOn, IsRefused, OnlyUnsat, Stops, known_in}
+use Rattle.dp_small.specs.Judging.{GoesOn, OnlyUnsat, Stops, known_in}
 use Rattle.dp_small.specs.Lines.{IsSmallKind, Spells}
 use Rattle.dp_small.specs.Logs.{Answers, AnswersLog, Lines, at_end, is_told, lines_of, refused, with_byte}
 use Rattle.dp_small.specs.Reading.{cut_at, with_first}

@@ -1,5 +1,5 @@
 -- Reading items one after the other, as a loop does.
-use Rattle.std.proofs.Common.{◌≡◌, ℕ, suc, zero, ◌-◌, ◌+◌, ◌≤◌, ◌<◌, List, [], ◌∷◌, ◌++◌, length, get_or, drop, map, Option, Some, None, refl, sym, ap, ◌∙◌, append_assoc, add-one, drop-cons, arith}
+use Rattle.std.proofs.Common.{◌≡◌, ℕ, ◌+◌, ◌≤◌, ◌<◌, List, [], ◌∷◌, ◌++◌, length, get_or, drop, map, Option, Some, None, refl, sym, ap, ◌∙◌, append_assoc, add-one, drop-cons}
 use Rattle.std.proofs.lemmas.List.{append-nil, drop_all}
 use Rattle.dp_small.specs.declared.fault.ModelFault.{ModelFault}
 use Rattle.dp_small.specs.declared.fault.ModelFault.TheVariants.{NotBuilt, Memory}
@@ -14,7 +14,7 @@ pub with_none : {B : Type 0} (o : Option (List B)) → with_front [] o ≡ o
 with_none None = refl
 with_none (Some ys) = refl
 
-regroup : {B : Type 0} (front : List B) (y : B) (o : Option (List B)) → with_front front (o >>= λ ys. Some (y ∷ ys)) ≡ with_front (front ++ y ∷ []) o
+pub regroup : {B : Type 0} (front : List B) (y : B) (o : Option (List B)) → with_front front (o >>= λ ys. Some (y ∷ ys)) ≡ with_front (front ++ y ∷ []) o
 regroup front y None = refl
 regroup {B = B} front y (Some ys) = ap (λ (zs : List B). Some zs) (sym (append_assoc front (y ∷ []) ys))
 

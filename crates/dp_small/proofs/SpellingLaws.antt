@@ -1,5 +1,5 @@
 -- The bytes of a line are its fields with a blank between each two, and are cut into them again.
-use Rattle.std.proofs.Common.{◌≡◌, ℕ, ◌+◌, ◌^◌, ◌≤◌, Bool, true, false, cond, eqb, leb, List, [], ◌∷◌, ◌++◌, length, map, Option, Some, None, refl, sym, ap, subst, ◌∙◌, append_assoc, arith, All}
+use Rattle.std.proofs.Common.{◌≡◌, ℕ, ◌^◌, Bool, true, false, cond, eqb, leb, List, [], ◌∷◌, ◌++◌, length, map, Option, Some, None, refl, sym, ap, subst, ◌∙◌, append_assoc, arith, All}
 use Rattle.std.specs.Prelude.{ℤ, codes, IfSome}
 use Rattle.std.specs.Fmt.{decimal}
 use Rattle.std.specs.List.{flat_map, join_with_byte, slice_split}
@@ -16,14 +16,13 @@ use Rattle.dp_lines.specs.declared.line.Line.{Line}
 use Rattle.dp_lines.specs.declared.line.Line.TheVariants.{Atom, Inference, Nogood, Delete, Conclude}
 use Rattle.dp_lines.specs.declared.line.Claim.{Claim}
 use Rattle.dp_lines.specs.declared.line.Claim.TheVariants.{Unsat, Bound as BoundOn}
-use Rattle.dp_lines.specs.Spelling.{atom_text, field, field_of, fields_text, hints_text, literals_text, op_text, signed}
+use Rattle.dp_lines.specs.Spelling.{field, field_of, fields_text, hints_text, literals_text, op_text, signed}
 use Rattle.dp_small.specs.Fields.{hint_fields, optional, tag_of, tail_of}
 use Rattle.dp_small.specs.Lines.{IsSmallKind, Spells}
 use Rattle.dp_small.specs.ReadLines.{line_of, read_line_of}
 use Rattle.dp_small.proofs.FieldLaws.{nameable_large, size_large}
 use Rattle.dp_small.proofs.LineLaws.{line_again, line_found}
 use Rattle.dp_small.proofs.PieceLaws.{IsFree, IsOutside, decimal_free, name_free, signed_free}
-use Rattle.dp_small.proofs.Steps.{passed}
 
 each_all : {A : Type 0} (P : A → Type 0) (xs : List A) → Each P xs → All P xs
 each_all P [] h = All-nil P

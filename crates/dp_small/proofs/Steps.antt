@@ -1,5 +1,5 @@
 -- Steps of reading, undone: where a chain gave something, each of its steps did.
-use Rattle.std.proofs.Common.{◌≡◌, Bool, true, false, cond, ◌&&◌, Option, Some, None, List, [], ◌∷◌, refl, ap}
+use Rattle.std.proofs.Common.{◌≡◌, Bool, true, false, cond, ◌&&◌, Option, Some, None, refl}
 use Rattle.std.specs.Option.{option_map}
 use Rattle.dp_small.specs.Reading.{◌>>=◌}
 

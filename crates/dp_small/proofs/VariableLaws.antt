@@ -1,24 +1,23 @@
 -- A variable is read exactly from its line.
-use Rattle.std.proofs.Common.{◌≡◌, ℕ, ◌^◌, ◌≤◌, ◌<◌, Bool, true, false, cond, eqb, List, [], ◌∷◌, ◌++◌, length, map, Option, Some, None, refl, sym, ap, subst, ◌∙◌, append_assoc, arith, inl, inr}
-use Rattle.std.specs.Prelude.{ℤ, pos, neg_ℤ, int_le, ◌≤ℤ◌, codes}
+use Rattle.std.proofs.Common.{◌≡◌, ℕ, ◌^◌, ◌<◌, true, cond, eqb, List, [], ◌∷◌, ◌++◌, length, Option, Some, None, refl, sym, ap, subst, ◌∙◌, append_assoc, arith}
+use Rattle.std.specs.Prelude.{ℤ, pos, neg_ℤ, int_le, codes}
 use Rattle.std.specs.List.{flat_map}
 use Rattle.std.proofs.lemmas.Bool.{and_from, and_parts}
 use Rattle.std.proofs.lemmas.Int.{ints}
 use Rattle.std.proofs.lemmas.List.Concat.{flat_map-append, flat_map-cons}
 use Rattle.std.proofs.lemmas.List.{append-nil, length-append}
 use Rattle.dp_base.specs.Lists.{Each}
-use Rattle.dp_base.specs.Names.{is_name}
 use Rattle.dp_domain.proofs.AtomLaws.{le-from_test, test-from_le}
 use Rattle.dp_domain.specs.Sets.{IsSmall}
 use Rattle.dp_lines.specs.Spelling.{signed}
 use Rattle.dp_small.specs.Models.{IsVariable, Variable, variable_text}
-use Rattle.dp_small.specs.Reading.{◌>>=◌, after, cut, cut_at, ended, integer_of, is_small, name_of, small_of}
+use Rattle.dp_small.specs.Reading.{◌>>=◌, after, cut, ended, integer_of, is_small, name_of, small_of}
 use Rattle.dp_small.specs.ReadModels.{bounds_of, next_of, variable_of}
 use Rattle.dp_small.proofs.NumberLaws.{IsLarge, integer_again, integer_found}
-use Rattle.dp_small.proofs.PieceLaws.{IsFree, IsOutside, after_again, after_found, byte_found, cut_again, name_again, name_found, name_free, signed_free}
+use Rattle.dp_small.proofs.PieceLaws.{after_found, byte_found, cut_again, name_again, name_found, name_free, signed_free}
 use Rattle.dp_small.proofs.FieldLaws.{ended_found}
 use Rattle.dp_small.proofs.SpellingLaws.{each_append}
-use Rattle.dp_small.proofs.Steps.{Bound, bound, passed}
+use Rattle.dp_small.proofs.Steps.{bound, passed}
 
 -- ---- numbers within ±10^9
 

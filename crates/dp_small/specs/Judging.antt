@@ -1,5 +1,5 @@
 -- The steps in which a log of the small form is judged.
-use Rattle.std.specs.Prelude.{◌≡◌, ℕ, ◌⊎◌, Option, Some, None, IfSome, Result, Ok, Err, IsOk, List}
+use Rattle.std.specs.Prelude.{◌≡◌, ℕ, ◌⊎◌, Some, None, IfSome, Result, Ok, Err, IsOk, List}
 use Rattle.dp_domain.specs.declared.verdict.Verdict.TheVariants.{Unsat}
 use Rattle.dp_lines.specs.declared.line.Line.{Line}
 use Rattle.dp_parts.specs.Posed.{Posed}

@@ -4,7 +4,7 @@ use Rattle.std.specs.List.{list_all, list_any, slice_split}
 use Rattle.std.specs.Str.{bytes_eq}
 use Rattle.dp_small.specs.declared.model.Declared.{Declared}
 use Rattle.dp_small.specs.Models.{Inequality, Variable}
-use Rattle.dp_small.specs.Problems.{numbered}
+use Rattle.dp_small.specs.Problems.{numbered, place_of}
 use Rattle.dp_small.specs.Reading.{◌>>=◌, after, cut, ended, integer_of, name_of, read_all, small_of}
 use Rattle.dp_small.specs.ReadLines.{is_zero}
 
@@ -57,8 +57,8 @@ lists_of line = do
 abbrev pub coefficient_of : List ℕ → Option ℤ
 coefficient_of bytes = small_of bytes >>= λ a. if is_zero a then None else Some a
 
--- each coefficient with the name that stands at its place; there are as many of both
-abbrev pub paired : List ℤ → List (List ℕ) → Option (List (ℤ × List ℕ))
+-- each coefficient with the item that stands at its place; there are as many of both
+abbrev pub paired : {A : Type 0} → List ℤ → List A → Option (List (ℤ × A))
 paired [] [] = Some []
 paired [] (x ∷ names) = None
 paired (a ∷ coefficients) [] = None
@@ -67,6 +67,17 @@ paired (a ∷ coefficients) (x ∷ names) = paired coefficients names >>= λ ter
 -- whether the name is one of these
 abbrev pub is_among : List ℕ → List (List ℕ) → Bool
 is_among name names = list_any (bytes_eq name) names
+
+-- the place of a declared name
+abbrev pub place_in : List (List ℕ) → List ℕ → Option ℕ
+place_in declared name = if is_among name declared then Some (place_of declared name) else None
+
+-- the terms of these coefficients and names, in the order in which they are written
+abbrev pub terms_in : List (List ℕ) → List ℕ → List ℕ → Option (List (ℤ × ℕ))
+terms_in declared coefficients names = do
+  numbers ← read_all coefficient_of (slice_split (λ b. b == 44) coefficients)
+  places ← read_all (place_in declared) (slice_split (λ b. b == 44) names)
+  paired numbers places
 
 -- whether each of the names stands once
 abbrev pub are_apart : List (List ℕ) → Bool

@@ -1,13 +1,14 @@
 // Models in the small form.
 
-ghost use Rattle.std.specs.Prelude.{◌≡◌, ℕ, ◌-◌, ◌^◌, ◌≤◌, ◌++◌, [], ◌∷◌, List, None, Some, IfNone, IfOk, IfSome, IsErrOf, MatchOption, length, map, min};
+ghost use Rattle.std.specs.Prelude.{◌≡◌, ℕ, ◌-◌, ◌^◌, ◌≤◌, ◌++◌, [], ◌∷◌, List, None, Some, IfNone, IfOk, IfSome, IsErrOf, MatchOption, OnOk, length, map, min};
 ghost use Rattle.std.specs.List.{flat_map, sum_by};
-ghost use Rattle.dp_base.specs.Lists.{Each};
+ghost use Rattle.std.specs.List.Sorted.{IsNonDecreasingBy, IsPermutation};
+ghost use Rattle.dp_base.specs.Lists.{Among, Each};
 ghost use Rattle.dp_small.specs.declared.fault.ModelFault.TheVariants.{NotBuilt};
 ghost use Rattle.dp_small.specs.Models.{Differ, Inequality, IsSmallModel, IsVariable, SmallModel, model_text, variable_text};
 ghost use Rattle.dp_small.specs.Problems.{linear_of, numbered, numbers, problem_of};
-ghost use Rattle.dp_small.specs.Reading.{Gives};
-ghost use Rattle.dp_small.specs.ReadModels.{AreNumbered, ReadsAs, bounds_of, coefficient_of, declared_of, inequality_of, lists_of, names_in, next_of, variable_of};
+ghost use Rattle.dp_small.specs.Reading.{Gives, read_all};
+ghost use Rattle.dp_small.specs.ReadModels.{AreNumbered, ReadsAs, bounds_of, coefficient_of, declared_of, inequality_of, lists_of, names_in, next_of, paired, place_in, terms_in, variable_of};
 
 use crate::ModelFault;
 use crate::names::name_of;
@@ -17,7 +18,7 @@ use dp_domain::{Dom, Memory, Name, State, VarId};
 use dp_parts::{Goal, Part, Parts, Problem};
 use dp_rule_linear::LinLe;
 use indexmap::IndexMap;
-use std::alloc::Global;
+use std::alloc::{AllocError, Global};
 
 /// The most bytes of a model's text.
 const LONGEST: usize = 67_108_864;
@@ -101,6 +102,33 @@ struct Variables {
     sets: Vec<Dom>,
 }
 
+/// Another name of the same bytes.
+fn copy_of(alloc: Global, name: &Name) -> Result<Name, Memory>
+    ensures { IfOk result (λ n. n ≡ name.now) }
+{
+    Ok(Name::new(name.bytes().to_vec(alloc)?))
+}
+
+/// The numbers that a variable may have.
+fn set_of(alloc: Global, variable: &Declared) -> Result<Dom, Memory>
+    requires { IsVariable (declared_of variable.now) }
+    ensures { IfOk result (λ d. d ≡ numbers variable.now.least variable.now.greatest) }
+{
+    Dom::range(alloc, variable.least, variable.greatest)
+}
+
+/// Adds a name under its variable, unless it is there.
+fn add_name(names: &mut IndexMap<Name, VarId>, name: Name, var: VarId) -> Result<(), ModelFault>
+    ensures added { OnOk result (names.new.entries ≡ names.old.entries ++ (name, var) ∷ []) }
+    ensures fresh { OnOk result (Among name (names_in names.old.entries) → ⊥) }
+    ensures there { IsErrOf result NotBuilt → Among name (names_in names.old.entries) }
+{
+    if names.insert(name, var)?.is_some() {
+        return Err(ModelFault::NotBuilt);
+    }
+    Ok(())
+}
+
 /// The variables as a problem has them.
 fn declare(alloc: Global, variables: &[Declared]) -> Result<Variables, ModelFault>
     requires each { Each IsVariable (map declared_of variables.now) }
@@ -115,12 +143,10 @@ fn declare(alloc: Global, variables: &[Declared]) -> Result<Variables, ModelFaul
     let mut own = Vec::new(alloc);
     let mut sets = Vec::new(alloc);
     for (place, variable) in variables.iter().enumerate() {
-        let name = Name::new(variable.name.bytes().to_vec(alloc)?);
-        if names.insert(name, VarId(place as u32))?.is_some() {
-            return Err(ModelFault::NotBuilt);
-        }
+        let name = copy_of(alloc, &variable.name)?;
+        add_name(&mut names, name, VarId(place as u32))?;
         own.push(place as u32)?;
-        sets.push(Dom::range(alloc, variable.least, variable.greatest)?)?;
+        sets.push(set_of(alloc, variable)?)?;
     }
     Ok(Variables { names, own, sets })
 }
@@ -148,11 +174,10 @@ fn coefficient_of(bytes: &[u8]) -> Result<i64, ModelFault>
 }
 
 /// The variable of this name.
-fn place_of(
-    alloc: Global,
-    names: &IndexMap<Name, VarId>,
-    bytes: &[u8],
-) -> Result<VarId, ModelFault> {
+fn place_of(alloc: Global, names: &IndexMap<Name, VarId>, bytes: &[u8]) -> Result<VarId, ModelFault>
+    requires { AreNumbered names.now.entries }
+    ensures { Gives (λ v. v) result (place_in (names_in names.now.entries) bytes.now) }
+{
     let name = Name::new(bytes.to_vec(alloc)?);
     match names.get(&name) {
         Some(var) => Ok(*var),
@@ -160,22 +185,75 @@ fn place_of(
     }
 }
 
-/// The terms of these coefficients and names, as they are written.
-fn terms_of(
+/// The coefficients of these fields.
+fn coefficients_of(alloc: Global, fields: &[&[u8]]) -> Result<Vec<i64>, ModelFault>
+    ensures { Gives (λ v. v.items) result (read_all coefficient_of (map (λ f. f.now) fields.now)) }
+{
+    let mut coefficients = Vec::new(alloc);
+    for field in fields {
+        coefficients.push(coefficient_of(*field)?)?;
+    }
+    Ok(coefficients)
+}
+
+/// The variables of these names.
+fn places_of(
     alloc: Global,
     names: &IndexMap<Name, VarId>,
-    coefficients: &[&[u8]],
-    variables: &[&[u8]],
-) -> Result<Vec<(i64, VarId)>, ModelFault> {
+    fields: &[&[u8]],
+) -> Result<Vec<VarId>, ModelFault>
+    requires { AreNumbered names.now.entries }
+    ensures { Gives (λ v. v.items) result (read_all (place_in (names_in names.now.entries)) (map (λ f. f.now) fields.now)) }
+{
+    let mut places = Vec::new(alloc);
+    for field in fields {
+        places.push(place_of(alloc, names, *field)?)?;
+    }
+    Ok(places)
+}
+
+/// Each coefficient with the variable at its place; there are as many of both.
+fn paired(
+    alloc: Global,
+    coefficients: &[i64],
+    places: &[VarId],
+) -> Result<Vec<(i64, VarId)>, ModelFault>
+    ensures { Gives (λ v. v.items) result (paired coefficients.now places.now) }
+{
     let mut terms = Vec::new(alloc);
-    if coefficients.len() != variables.len() {
+    if coefficients.len() != places.len() {
         return Err(ModelFault::NotBuilt);
     }
     for (place, coefficient) in coefficients.iter().enumerate() {
-        let coefficient = coefficient_of(*coefficient)?;
-        let var = place_of(alloc, names, variables[place])?;
-        terms.push((coefficient, var))?;
+        terms.push((*coefficient, places[place]))?;
     }
+    Ok(terms)
+}
+
+/// The terms of these coefficients and names, in the order in which they are written.
+fn terms_of(
+    alloc: Global,
+    names: &IndexMap<Name, VarId>,
+    coefficients: &[u8],
+    variables: &[u8],
+) -> Result<Vec<(i64, VarId)>, ModelFault>
+    requires { AreNumbered names.now.entries }
+    ensures { Gives (λ v. v.items) result (terms_in (names_in names.now.entries) coefficients.now variables.now) }
+{
+    let coefficients = pieces(alloc, coefficients, b',')?;
+    let coefficients = coefficients_of(alloc, &coefficients)?;
+    let variables = pieces(alloc, variables, b',')?;
+    let places = places_of(alloc, names, &variables)?;
+    paired(alloc, &coefficients, &places)
+}
+
+/// The terms in order of their variables.
+fn sorted(terms: Vec<(i64, VarId)>) -> Result<Vec<(i64, VarId)>, AllocError>
+    ensures permutation { IfOk result (λ v. IsPermutation terms.items v.items) }
+    ensures sorted { IfOk result (λ v. IsNonDecreasingBy (λ t. t.1) v.items) }
+{
+    let mut terms = terms;
+    terms.sort_by_key(|term| term.1.0)?;
     Ok(terms)
 }
 
@@ -191,10 +269,7 @@ fn part_of(
 {
     let (coefficients, variables, limit) = lists_of(line)?;
     let limit = integer_of(limit)?;
-    let coefficients = pieces(alloc, coefficients, b',')?;
-    let variables = pieces(alloc, variables, b',')?;
-    let mut terms = terms_of(alloc, names, &coefficients, &variables)?;
-    terms.as_mut_slice().sort_by_key(alloc, |term| term.1.0)?;
+    let terms = sorted(terms_of(alloc, names, coefficients, variables)?)?;
     let count = terms.len();
     match LinLe::new(None, terms, i128::from(limit)) {
         Ok(part) => Ok((Part::LinLe(part), count)),
