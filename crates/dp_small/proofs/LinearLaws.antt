@@ -144,9 +144,10 @@ later_tail t ts h j lt =
 
 later_up : (ts : List (ℤ × ℕ)) → IsNonDecreasingBy (λ u. u.1) ts → Later ts → Up ts
 later_up [] r h = tt
-later_up (t ∷ ts) r h =
-    (Each-from_all (λ (u : ℤ × ℕ). t.1 < u.1) ts (λ k d lt. (let a = h 0 (omega arith) in let b = rises_tail t ts r 0 k (pos 0, 0) (omega arith) lt in rw (get_or_default ts k d (pos 0, 0) lt) (omega (arith, a, b)))),
-    later_up ts (rises_tail t ts r) (later_tail t ts h))
+later_up (t ∷ ts) r h = (
+  Each-from_all (λ (u : ℤ × ℕ). t.1 < u.1) ts (λ k d lt. (let a = h 0 (omega arith) in let b = rises_tail t ts r 0 k (pos 0, 0) (omega arith) lt in rw (get_or_default ts k d (pos 0, 0) lt) (omega (arith, a, b)))),
+  later_up ts (rises_tail t ts r) (later_tail t ts h),
+)
 
 module _ (declared : List (List ℕ)) (coefficients names : List ℕ) (ps ys : List (ℤ × ℕ)) (limit : ℤ) where
   known_length : (placed_terms : ArePlaced declared coefficients names ps) → IsPermutation ps ys → length ys ≡ length placed_terms.terms
@@ -161,7 +162,7 @@ module _ (declared : List (List ℕ)) (coefficients names : List ℕ) (ps ys : L
       let few : length ys ≤ 2000000 = proper.few in
       let le : length h.terms ≤ 2000000 = omega (arith, few, known_length h moved) in (
         and_from (all_declared declared h.terms) (are_apart (map (λ t. t.1) h.terms) && leb (length h.terms) 2000000) h.known
-        (and_from (are_apart (map (λ t. t.1) h.terms)) (leb (length h.terms) 2000000) (once_apart declared h.terms once) (le-leb (length h.terms) 2000000 le)),
+            (and_from (are_apart (map (λ t. t.1) h.terms)) (leb (length h.terms) 2000000) (once_apart declared h.terms once) (le-leb (length h.terms) 2000000 le)),
         (sorted_once declared h.terms ys moved' rises once).0,
       )
 

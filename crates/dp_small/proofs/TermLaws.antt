@@ -82,9 +82,10 @@ rises_tail t ts r i j d le lt = r (suc i) (suc j) d (omega arith) (omega arith)
 
 pub rises_up : (ts : List (ℤ × ℕ)) → IsNonDecreasingBy (λ u. u.1) ts → Once ts → Up ts
 rises_up [] r once = tt
-rises_up (t ∷ ts) r once =
-    (Each-from_all (λ (u : ℤ × ℕ). t.1 < u.1) ts (λ k d lt. (let ne = once_head t ts once (get_or ts k d) (Among-get_or ts k d lt) in let le = r 0 (suc k) d (omega arith) (omega arith) in omega (arith, ne, le))),
-    rises_up ts (rises_tail t ts r) (once_tail t ts once))
+rises_up (t ∷ ts) r once = (
+  Each-from_all (λ (u : ℤ × ℕ). t.1 < u.1) ts (λ k d lt. (let ne = once_head t ts once (get_or ts k d) (Among-get_or ts k d lt) in let le = r 0 (suc k) d (omega arith) (omega arith) in omega (arith, ne, le))),
+  rises_up ts (rises_tail t ts r) (once_tail t ts once),
+)
 
 -- ---- insertion
 

@@ -149,11 +149,7 @@ fn coefficient_of(bytes: &[u8]) -> Result<i64, ModelFault>
 }
 
 /// The variable of this name.
-fn place_of(
-    alloc: Global,
-    names: &IndexMap<Name, VarId>,
-    bytes: &[u8],
-) -> Result<VarId, ModelFault>
+fn place_of(alloc: Global, names: &IndexMap<Name, VarId>, bytes: &[u8]) -> Result<VarId, ModelFault>
     requires { AreNumbered names.now.entries }
     ensures { Gives (λ v. v) result (place_in (names_in names.now.entries) bytes.now) }
 {

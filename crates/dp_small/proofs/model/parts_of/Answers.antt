@@ -24,10 +24,13 @@ loop-constraints-preserved c =
     let one : Inequality → List Part = λ q. LinLe (linear_of declared q) ∷ [] in
     let made : c.new.result ≡ one got.0 = c.new.ensures ∙ c.in_ok-push.ensures.items ∙ ap (λ (ps : List Part). ps ++ c.in-Some.part ∷ []) c.new-parts.ensures.items ∙ ap (λ (p : Part). p ∷ []) got.2 in
     let items : c.push-in-Some.new.self.items ≡ map one (done.0 ++ got.0 ∷ []) =
-        c.in_ok-push-2.ensures.items ∙ ap (λ (p : List Part). c.loop-constraints.constraints.items ++ p ∷ []) made
-        ∙ ap (λ (ps : List (List Part)). ps ++ one got.0 ∷ []) done.2 ∙ sym (map_push one done.0 got.0) in
-    (done.0 ++ got.0 ∷ [], reads_more declared c.args.text.now done.0 c.loop-constraints.rest.now got.0 c.in-Some.behind.now done.1 got.1, items,
-    c.saturating_add-elements.ensures ∙ terms_more done.0 got.0 c.loop-constraints.elements c.in-Some.count done.3 got.3)
+    c.in_ok-push-2.ensures.items ∙ ap (λ (p : List Part). c.loop-constraints.constraints.items ++ p ∷ []) made
+    ∙ ap (λ (ps : List (List Part)). ps ++ one got.0 ∷ []) done.2 ∙ sym (map_push one done.0 got.0) in (
+      done.0 ++ got.0 ∷ [],
+      reads_more declared c.args.text.now done.0 c.loop-constraints.rest.now got.0 c.in-Some.behind.now done.1 got.1,
+      items,
+      c.saturating_add-elements.ensures ∙ terms_more done.0 got.0 c.loop-constraints.elements c.in-Some.count done.3 got.3,
+    )
 
 pub returns : goal.returns
 returns c =
