@@ -1,11 +1,10 @@
 use mir.Syntax.{w64, w128}
-use mir.Val.{SFits, of_z, to_z}
-use Rattle.std.proofs.Common.{◌≡◌, ℕ, List, None, sym, ap, ◌∙◌, arith}
+use mir.Val.{SFits}
+use Rattle.std.proofs.Common.{◌≡◌, ℕ, List, None, ap, ◌∙◌, arith}
 use Rattle.std.proofs.lemmas.Int.{ints, to_z-of_z}
-use Rattle.std.specs.Prelude.{ℤ}
 use Rattle.std.proofs.lemmas.Result.{err_from_is_err_and}
 use Rattle.dp_parts.specs.declared.part.Part.TheVariants.{LinLe}
-use Rattle.dp_rule_linear.specs.Forms.{Linear, IsProper, form_of}
+use Rattle.dp_rule_linear.specs.Forms.{Linear, form_of}
 use Rattle.dp_rule_linear.specs.Refusals.{IsRefused}
 use Rattle.dp_small.specs.ReadModels.{names_in, terms_in}
 use Rattle.dp_small.proofs.NumberLaws.{integer_found}

@@ -1,4 +1,4 @@
-use Rattle.std.proofs.Common.{◌≡◌, ℕ, List, Some, None, ◌∷◌, ◌++◌, [], refl, sym, ap, ◌∙◌, arith, length, map}
+use Rattle.std.proofs.Common.{◌≡◌, List, ◌∷◌, ◌++◌, [], refl, sym, ap, ◌∙◌, map}
 use Rattle.std.proofs.lemmas.List.{map_push}
 use Rattle.dp_parts.specs.declared.part.Part.{Part}
 use Rattle.dp_parts.specs.declared.part.Part.TheVariants.{LinLe}

@@ -1,4 +1,4 @@
-use Rattle.std.proofs.Common.{arith, map}
+use Rattle.std.proofs.Common.{map}
 use Rattle.std.proofs.lemmas.Result.{err_from_is_err_and}
 use Rattle.dp_small.specs.Reading.{read_all}
 use Rattle.dp_small.specs.ReadModels.{names_in, place_in}
