@@ -1,15 +1,15 @@
 -- The linear form of an inequality: what is read is proper exactly where its line spells an inequality.
-use Rattle.std.proofs.Common.{◌≡◌, ◌≢◌, ℕ, zero, suc, ◌+◌, ◌^◌, ◌<◌, ◌≤◌, Bool, true, false, cond, eqb, leb, ◌&&◌, List, [], ◌∷◌, length, map, get_or, Option, Some, None, refl, sym, ap, subst, ◌∙◌, arith, inl, inr}
-use Rattle.std.specs.Prelude.{ℤ, pos, neg_ℤ, ◌≤ℤ◌, Err, IsErrOf}
+use Rattle.std.proofs.Common.{◌≡◌, ℕ, zero, suc, ◌+◌, ◌<◌, ◌≤◌, true, cond, eqb, leb, ◌&&◌, List, [], ◌∷◌, length, map, get_or, Option, Some, None, refl, sym, ap, subst, ◌∙◌, arith, inl, inr}
+use Rattle.std.specs.Prelude.{ℤ, pos, Err, IsErrOf}
 use Rattle.std.specs.List.{slice_split}
 use Rattle.std.specs.List.Sorted.{IsNonDecreasingBy, IsPermutation}
 use Rattle.std.proofs.lemmas.Bool.{and_from, and_parts, cases_Bool, le-leb, leb-true}
 use Rattle.std.proofs.lemmas.Int.{ints}
 use Rattle.std.proofs.lemmas.List.{get_or_default, length-map}
 use Rattle.std.proofs.lemmas.List.Sorted.{IsPermutation-sym, length_permutation}
-use Rattle.dp_base.specs.Lists.{Among, Each}
-use Rattle.dp_base.proofs.Lists.{Among-get_or, Each-among, Each-from_all, Each-from_among, Each-get_or}
-use Rattle.dp_rule_linear.specs.Forms.{IsBounded, IsGoodAt, IsProper, form_of, term_at}
+use Rattle.dp_base.specs.Lists.{Each}
+use Rattle.dp_base.proofs.Lists.{Each-among, Each-from_all, Each-from_among, Each-get_or}
+use Rattle.dp_rule_linear.specs.Forms.{IsGoodAt, IsProper, form_of, term_at}
 use Rattle.dp_rule_linear.specs.Refusals.{IsRefused}
 use Rattle.dp_rule_linear.specs.declared.refusal.LinRefusal.{LinRefusal}
 use Rattle.dp_rule_linear.proofs.RefusalLaws.{never_refused}
