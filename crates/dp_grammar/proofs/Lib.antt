@@ -1,0 +1,6 @@
+pub mod Carry
+pub mod Chains
+pub mod Choices
+pub mod Leaves
+pub mod Manys
+pub mod Wholes

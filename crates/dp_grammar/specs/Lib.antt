@@ -1,0 +1,6 @@
+pub mod Chain
+pub mod Choice
+pub mod Grammar
+pub mod Leaf
+pub mod Many
+pub mod Whole
