@@ -1,7 +1,7 @@
 -- A chain of lawful productions is lawful, and so is a lawful production in another shape.
 use Rattle.std.proofs.Common.{◌≡◌, List, [], ◌∷◌, ◌++◌, Option, Some, None, refl, sym, ap, ◌∙◌, append_assoc}
 use Rattle.dp_grammar.specs.Grammar.{Cause, Reading, Takes, Stops, Grammar, verdict, Tells, IsLawful}
-use Rattle.dp_grammar.specs.Chain.{followed, mapped, first_fault, chain, shaped, IsShape}
+use Rattle.dp_grammar.specs.Chain.{followed, mapped, first_fault, chain, shaped, behind_mark, before_mark, IsShape}
 use Rattle.dp_grammar.proofs.Carry.{mapped_verdict, no_first_fault, chained, behind, within}
 
 chain_tells : {T F X Y : Type 0} (g : Grammar T F X) (next : X → Grammar T F Y) → IsLawful g → ((x : X) → IsLawful (next x))
@@ -44,3 +44,15 @@ shaped_lawful {T} {F} {X} {Y} make unmake g shape gl =
         (λ other _. refl)
         (g.read text) (gl.tells text);
     }
+
+pub behind_mark_lawful : {T F X : Type 0} (m : Grammar T F (Unit {0})) (g : Grammar T F X) → IsLawful m → IsLawful g → IsLawful (behind_mark m g)
+behind_mark_lawful {T} {F} {X} m g ml gl =
+    shaped_lawful (λ (p : Unit {0} × X). p.1) (λ (x : X). (tt, x)) (chain m (λ _. g))
+      (record { opens = λ p. refl; makes = λ x. refl })
+      (chain_lawful m (λ _. g) ml (λ _. gl))
+
+pub before_mark_lawful : {T F X : Type 0} (g : Grammar T F X) (m : Grammar T F (Unit {0})) → IsLawful g → IsLawful m → IsLawful (before_mark g m)
+before_mark_lawful {T} {F} {X} g m gl ml =
+    shaped_lawful (λ (p : X × Unit {0}). p.0) (λ (x : X). (x, tt)) (chain g (λ _. m))
+      (record { opens = λ p. refl; makes = λ x. refl })
+      (chain_lawful g (λ _. m) gl (λ _. ml))

@@ -4,3 +4,4 @@ pub mod Choices
 pub mod Leaves
 pub mod Manys
 pub mod Wholes
+pub mod Only

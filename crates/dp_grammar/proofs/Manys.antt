@@ -3,17 +3,9 @@ use Rattle.std.proofs.Common.{◌≡◌, ℕ, zero, suc, ◌-◌, ◌<◌, ◌�
 use Rattle.dp_grammar.specs.Grammar.{Cause, Reading, Takes, Stops, Grammar, head, verdict, Tells, IsLawful}
 use Rattle.dp_grammar.specs.Chain.{followed, mapped, first_fault}
 use Rattle.dp_grammar.specs.Choice.{passes, begins, IsLed}
-use Rattle.dp_grammar.specs.Many.{Repeat, spell_behind, fault_behind, closed, with_item, read_behind, many_behind, many, IsRepeat}
+use Rattle.dp_grammar.specs.Many.{Repeat, spell_behind, fault_behind, closed, with_item, read_behind, many_behind, many, after_item, step, IsRepeat}
 use Rattle.dp_grammar.proofs.Carry.{mapped_verdict, no_first_fault, chained, behind, within}
 use Rattle.dp_grammar.proofs.Choices.{led_begins}
-
--- what follows an item
-abbrev after_item : {T F X C : Type 0} → Repeat T F X C → List X → X → List T → Reading T F (List X × C)
-after_item r kept x rest = mapped (with_item x) (read_behind r (kept ++ x ∷ []) rest 0)
-
--- one item and what follows it, or the close
-abbrev step : {T F X C : Type 0} → Repeat T F X C → List X → List T → Bool → Reading T F (List X × C)
-step r kept text another = cond another (followed ((r.item kept).read text) (after_item r kept)) (closed r kept text)
 
 -- ---- the tokens of the last item are passed over
 

@@ -75,7 +75,7 @@ differ : {T F X : Type 0} (f : F) (a b : List T) (read : Reading T F X) → read
 differ f a b read e d = absurd cc
 
 -- A value with a fault is read up to it, whatever follows the token.
-refused_value : {T F X : Type 0} (g : Grammar T F X) → IsLawful g → (y : X) (f : F) (at : List T) → g.fault y ≡ Some (f, at) → IsRefused g (g.spell y) (Test f) at
+pub refused_value : {T F X : Type 0} (g : Grammar T F X) → IsLawful g → (y : X) (f : F) (at : List T) → g.fault y ≡ Some (f, at) → IsRefused g (g.spell y) (Test f) at
 refused_value {T} {F} {X} g l y f at fault =
     let read : g.read (g.spell y) ≡ Stops (Test f) (at ++ []) = alone g l y (g.spell y) refl ∙ ap (λ (o : Option (F × List T)). verdict o y []) fault in
     subst (λ (q : List T). IsRefused g (g.spell y) (Test f) q) (append-nil at) (subst (Tells g (g.spell y)) read (l.tells (g.spell y)))

@@ -32,6 +32,14 @@ shaped make unmake g = record {
   read = λ text. mapped make (g.read text);
 }
 
+-- this mark, and then g
+abbrev pub behind_mark : {T F X : Type 0} → Grammar T F (Unit {0}) → Grammar T F X → Grammar T F X
+behind_mark m g = shaped (λ p. p.1) (λ x. (tt, x)) (chain m (λ _. g))
+
+-- g, and then the mark that closes it
+abbrev pub before_mark : {T F X : Type 0} → Grammar T F X → Grammar T F (Unit {0}) → Grammar T F X
+before_mark g m = shaped (λ p. p.0) (λ x. (x, tt)) (chain g (λ _. m))
+
 -- the two types have the same values
 pub record IsShape {X Y : Type 0} (make : X → Y) (unmake : Y → X) : Type 0 where
   pub opens : (x : X) → unmake (make x) ≡ x

@@ -47,6 +47,14 @@ many_behind r kept = record {
 abbrev pub many : {T F X C : Type 0} → Repeat T F X C → Grammar T F (List X × C)
 many r = many_behind r []
 
+-- ---- the same in words: an item and what follows it, or the close
+
+abbrev pub after_item : {T F X C : Type 0} → Repeat T F X C → List X → X → List T → Reading T F (List X × C)
+after_item r kept x rest = mapped (with_item x) ((many_behind r (kept ++ x ∷ [])).read rest)
+
+abbrev pub step : {T F X C : Type 0} → Repeat T F X C → List X → List T → Bool → Reading T F (List X × C)
+step r kept text another = if another then followed ((r.item kept).read text) (after_item r kept) else closed r kept text
+
 -- the parts are lawful, and the first token of a spelling tells an item from a close
 pub record IsRepeat {T F X C : Type 0} (r : Repeat T F X C) : Type 0 where
   pub item : (kept : List X) → IsLawful (r.item kept)

@@ -1,12 +1,11 @@
 //! Grammars over tokens of any type, as values from which a reader and its refusals follow.
+//!
+//! A production says of each value how it is spelled and which test refuses it first, and of each text how it is read.
+//! The two directions are written apart, and the laws below join them: each way of building a production keeps them,
+//! and a production that has them answers a whole text exactly. A crate with a text of its own states its productions
+//! in these words, proves once that they are lawful, and cites the laws where it reads.
 #![tactic(auto)]
 
-ghost use Rattle.std.specs.Prelude.{◌≡◌, List, Result};
-ghost use Rattle.dp_grammar.specs.Grammar.{Cause, Grammar, IsLawful};
-ghost use Rattle.dp_grammar.specs.Whole.{Says, whole};
+mod laws;
 
-/// Reading a whole text says what the grammar says, and the grammar says nothing else.
-pub fn exactness<T, F, X>()
-    ensures says { (g : Grammar T F X) → IsLawful g → (text : List T) → Says g text (whole g text) }
-{
-}
+pub use laws::{exactness, productions};

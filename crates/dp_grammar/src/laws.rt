@@ -1,0 +1,38 @@
+//! The laws of grammars, for every type of tokens, tests and values.
+
+ghost use Rattle.std.specs.Prelude.{◌≡◌, Bool, List, Result};
+ghost use Rattle.dp_grammar.specs.Chain.{IsShape, before_mark, behind_mark, chain, shaped};
+ghost use Rattle.dp_grammar.specs.Choice.{AreApart, begins, either};
+ghost use Rattle.dp_grammar.specs.Grammar.{Cause, Grammar, IsLawful};
+ghost use Rattle.dp_grammar.specs.Leaf.{IsLeaf, IsOnly, Leaf, leaf, mark};
+ghost use Rattle.dp_grammar.specs.Many.{IsRepeat, Repeat, many, many_behind, step};
+ghost use Rattle.dp_grammar.specs.Whole.{Says, whole};
+
+/// Reading a whole text answers what the grammar says of it: the value that is spelled so and passes each test, or the
+/// first refusal and its place. The grammar says nothing else of the text.
+pub fn exactness<T, F, X>()
+    ensures says { (g : Grammar T F X) → IsLawful g → (text : List T) → Says g text (whole g text) }
+    ensures only { (g : Grammar T F X) → IsLawful g → (text : List T) (answer : Result X (Cause F × List T)) →
+        Says g text answer → answer ≡ whole g text }
+{
+}
+
+/// Productions that are built of lawful ones are lawful.
+pub fn productions<T, F, X, Y>()
+    ensures leaf { (l : Leaf T F X) → IsLeaf l → IsLawful (leaf l) }
+    ensures mark { (is : T → Bool) (t : T) → IsOnly is t → IsLawful (mark {T = T} {F = F} is t) }
+    ensures chain { (g : Grammar T F X) (next : X → Grammar T F Y) →
+        IsLawful g → ((x : X) → IsLawful (next x)) → IsLawful (chain g next) }
+    ensures shaped { (make : X → Y) (unmake : Y → X) (g : Grammar T F X) →
+        IsShape make unmake → IsLawful g → IsLawful (shaped make unmake g) }
+    ensures behind_mark { (m : Grammar T F (Unit {0})) (g : Grammar T F X) → IsLawful m → IsLawful g → IsLawful (behind_mark m g) }
+    ensures before_mark { (g : Grammar T F X) (m : Grammar T F (Unit {0})) → IsLawful g → IsLawful m → IsLawful (before_mark g m) }
+    ensures either { (test : T → Bool) (g : Grammar T F X) (h : Grammar T F Y) →
+        AreApart test g h → IsLawful g → IsLawful h → IsLawful (either test g h) }
+    ensures many { (r : Repeat T F X Y) → IsRepeat r → IsLawful (many r) }
+
+    // Repetition is an item and what follows it, or the close.
+    ensures repeats { (r : Repeat T F X Y) → IsRepeat r → (kept : List X) (text : List T) →
+        (many_behind r kept).read text ≡ step r kept text (begins r.goes_on text) }
+{
+}
