@@ -38,9 +38,9 @@ behind {T} h k make lead text mid parts spell_is fault_is read_is (Stops cause r
       parts = parts ∙ ap (λ (s : List T). lead ++ s) r.parts ∙ sym (append_assoc lead r.front rest);
       stands = r.stands;
       firm = λ other same.
-        ap k.read (append_assoc lead r.front other)
-        ∙ read_is (r.front ++ other) (head-append r.front other rest same ∙ ap (λ (s : List T). head s) (sym r.parts))
-        ∙ ap (mapped make) (r.firm other same);
+          ap k.read (append_assoc lead r.front other)
+          ∙ read_is (r.front ++ other) (head-append r.front other rest same ∙ ap (λ (s : List T). head s) (sym r.parts))
+          ∙ ap (mapped make) (r.firm other same);
       value = make r.value;
       more = r.more;
       spelled = spell_is r.value ∙ ap (λ (s : List T). lead ++ s) r.spelled ∙ sym (append_assoc lead r.front (allowed cause rest ++ r.more));

@@ -24,12 +24,12 @@ either_tells : {T F X Y : Type 0} (test : T → Bool) (g : Grammar T F X) (h : G
     → (text : List T) (b : Bool) → begins test text ≡ b → Tells (either test g h) text (read_either b g h text)
 either_tells {T} test g h gl hl text true e =
     behind g (either test g h) inl [] text text refl (λ x. refl) (λ x e. e)
-      (λ other same. ap (λ (b : Bool). read_either b g h other) (ap (passes test) same ∙ e))
-      (g.read text) (gl.tells text)
+    (λ other same. ap (λ (b : Bool). read_either b g h other) (ap (passes test) same ∙ e))
+    (g.read text) (gl.tells text)
 either_tells {T} test g h gl hl text false e =
     behind h (either test g h) inr [] text text refl (λ y. refl) (λ y e. e)
-      (λ other same. ap (λ (b : Bool). read_either b g h other) (ap (passes test) same ∙ e))
-      (h.read text) (hl.tells text)
+    (λ other same. ap (λ (b : Bool). read_either b g h other) (ap (passes test) same ∙ e))
+    (h.read text) (hl.tells text)
 
 pub either_lawful : {T F X Y : Type 0} (test : T → Bool) (g : Grammar T F X) (h : Grammar T F Y) → AreApart test g h → IsLawful g → IsLawful h → IsLawful (either test g h)
 either_lawful test g h apart gl hl =

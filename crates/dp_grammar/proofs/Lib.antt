@@ -1,7 +1,8 @@
+pub mod Bracketings
 pub mod Carry
 pub mod Chains
 pub mod Choices
 pub mod Leaves
 pub mod Manys
-pub mod Wholes
 pub mod Only
+pub mod Wholes

@@ -55,7 +55,7 @@ again_behind {T} {F} {X} {C} r is (x ∷ xs) kept c rest =
     ∙ unrolled_as r is kept (s ++ (tail ++ rest)) true (led_begins r.goes_on true s (tail ++ rest) (is.begins kept x))
     ∙ ap (λ (q : Reading T F X). followed q (after_item r kept)) ((is.item kept).again x (tail ++ rest))
     ∙ chained ((r.item kept).fault x) x tail rest (after_item r kept) (fault_behind r (kept ++ x ∷ []) xs c) (x ∷ xs, c)
-        (ap (mapped (with_item x)) (again_behind r is xs (kept ++ x ∷ []) c rest) ∙ mapped_verdict (with_item x) (fault_behind r (kept ++ x ∷ []) xs c) (xs, c) rest)
+    (ap (mapped (with_item x)) (again_behind r is xs (kept ++ x ∷ []) c rest) ∙ mapped_verdict (with_item x) (fault_behind r (kept ++ x ∷ []) xs c) (xs, c) rest)
 
 shorter : {T : Type 0} (test : T → Bool) (text s rest : List T) (n : ℕ) → IsLed test true s → text ≡ s ++ rest → length text < suc n → length rest < n
 shorter test text [] rest n led e lt = absurd led
@@ -71,28 +71,28 @@ item_tells : {T F X C : Type 0} (r : Repeat T F X C) → IsRepeat r → (n : ℕ
     → (read : Reading T F X) → Tells (r.item kept) text read → Tells (many_behind r kept) text (followed read (after_item r kept))
 item_tells {T} {F} {X} {C} r is n tells_shorter kept text lt e (Takes x mid) t =
     behind (many_behind r (kept ++ x ∷ [])) (many_behind r kept) (with_item x) ((r.item kept).spell x) text mid t.0
-      (λ p. refl)
-      (λ p none. no_first_fault ((r.item kept).fault x) (spell_behind r (kept ++ x ∷ []) p.0 p.1) (fault_behind r (kept ++ x ∷ []) p.0 p.1) t.1 none)
-      (λ other _.
-        unrolled_as r is kept ((r.item kept).spell x ++ other) true (led_begins r.goes_on true ((r.item kept).spell x) other (is.begins kept x))
-        ∙ ap (λ (q : Reading T F X). followed q (after_item r kept)) ((is.item kept).again x other ∙ ap (λ (o : Option (F × List T)). verdict o x other) t.1))
-      (read_behind r (kept ++ x ∷ []) mid 0)
-      (tells_shorter (kept ++ x ∷ []) mid (shorter r.goes_on text ((r.item kept).spell x) mid n (is.begins kept x) t.0 lt))
+    (λ p. refl)
+    (λ p none. no_first_fault ((r.item kept).fault x) (spell_behind r (kept ++ x ∷ []) p.0 p.1) (fault_behind r (kept ++ x ∷ []) p.0 p.1) t.1 none)
+    (λ other _.
+    unrolled_as r is kept ((r.item kept).spell x ++ other) true (led_begins r.goes_on true ((r.item kept).spell x) other (is.begins kept x))
+    ∙ ap (λ (q : Reading T F X). followed q (after_item r kept)) ((is.item kept).again x other ∙ ap (λ (o : Option (F × List T)). verdict o x other) t.1))
+    (read_behind r (kept ++ x ∷ []) mid 0)
+    (tells_shorter (kept ++ x ∷ []) mid (shorter r.goes_on text ((r.item kept).spell x) mid n (is.begins kept x) t.0 lt))
 item_tells {T} {F} {X} {C} r is n tells_shorter kept text lt e (Stops cause rest) t =
     within (r.item kept) (many_behind r kept) (λ x. (x ∷ [], (is.close (kept ++ x ∷ [])).some)) (λ x. (r.close (kept ++ x ∷ [])).spell (is.close (kept ++ x ∷ [])).some) text cause rest
-      (λ x. refl)
-      (λ other left same stops.
-        unrolled_as r is kept other true (ap (passes r.goes_on) same ∙ e)
-        ∙ ap (λ (q : Reading T F X). followed q (after_item r kept)) stops)
-      t
+    (λ x. refl)
+    (λ other left same stops.
+    unrolled_as r is kept other true (ap (passes r.goes_on) same ∙ e)
+    ∙ ap (λ (q : Reading T F X). followed q (after_item r kept)) stops)
+    t
 
 step_tells : {T F X C : Type 0} (r : Repeat T F X C) → IsRepeat r → (n : ℕ) → TellsShorter r n → (kept : List X) (text : List T) → length text < suc n
     → (b : Bool) → begins r.goes_on text ≡ b → Tells (many_behind r kept) text (step r kept text b)
 step_tells r is n tells_shorter kept text lt true e = item_tells r is n tells_shorter kept text lt e ((r.item kept).read text) ((is.item kept).tells text)
 step_tells {T} {F} {X} {C} r is n tells_shorter kept text lt false e =
     behind (r.close kept) (many_behind r kept) (λ c. ([], c)) [] text text refl (λ c. refl) (λ c none. none)
-      (λ other same. unrolled_as r is kept other false (ap (passes r.goes_on) same ∙ e))
-      ((r.close kept).read text) ((is.close kept).tells text)
+    (λ other same. unrolled_as r is kept other false (ap (passes r.goes_on) same ∙ e))
+    ((r.close kept).read text) ((is.close kept).tells text)
 
 tells_below : {T F X C : Type 0} (r : Repeat T F X C) → IsRepeat r → (n : ℕ) → TellsShorter r n
 tells_below r is zero kept text lt = absurd (omega (arith, lt))

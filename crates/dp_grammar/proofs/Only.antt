@@ -27,7 +27,7 @@ no_further g front [] u m left stuck e c = absurd cc
 no_further {T} g front (t ∷ rest) u m left stuck e c =
     let is_u : t ≡ u = cc in
     subst (λ (v : T). CanBegin g (front ++ v ∷ []) → ⊥) is_u stuck
-      (c.0, m ++ c.1, c.2 ∙ append_assoc front (u ∷ m) c.1 ∙ sym (append_assoc front (u ∷ []) (m ++ c.1)))
+    (c.0, m ++ c.1, c.2 ∙ append_assoc front (u ∷ m) c.1 ∙ sym (append_assoc front (u ∷ []) (m ++ c.1)))
 
 not_spelled : {T F X : Type 0} (g : Grammar T F X) (text rest : List T) → IsSyntax g text rest → (x : X) → text ≡ g.spell x → ⊥
 not_spelled g text [] q x e = q.stuck x (sym e ∙ q.parts ∙ append-nil q.front)
@@ -44,9 +44,9 @@ one_place g text rest left q p =
     elim (cases_lt (length rest) (length left)) [
       | inl lt ↦ absurd (not_earlier g text rest left q p lt)
       | inr le ↦ elim (cases_lt (length left) (length rest)) [
-          | inl lt ↦ absurd (not_earlier g text left rest p q lt)
-          | inr ge ↦ (same_cut q.front rest p.front left (sym q.parts ∙ p.parts) (omega (arith, le, ge))).1
-        ]
+        | inl lt ↦ absurd (not_earlier g text left rest p q lt)
+        | inr ge ↦ (same_cut q.front rest p.front left (sym q.parts ∙ p.parts) (omega (arith, le, ge))).1
+      ]
     ]
 
 -- a test before a refusal by syntax
@@ -57,7 +57,7 @@ not_tested_before {T} g text rest left f q p lt =
     let more = q.begins.1 in
     let token_is : cut.0 ≡ p.token = let both : cut.0 ∷ (cut.1 ++ rest) ≡ p.token ∷ p.after = sym cut.3 ∙ p.at in cc in
     let spelled : g.spell y ≡ p.front ++ p.token ∷ (cut.1 ++ more) =
-      q.begins.2 ∙ ap (λ (s : List T). s ++ more) cut.2 ∙ append_assoc p.front (cut.0 ∷ cut.1) more ∙ ap (λ (t : T). p.front ++ t ∷ (cut.1 ++ more)) token_is in
+    q.begins.2 ∙ ap (λ (s : List T). s ++ more) cut.2 ∙ append_assoc p.front (cut.0 ∷ cut.1) more ∙ ap (λ (t : T). p.front ++ t ∷ (cut.1 ++ more)) token_is in
     let short = q.passes y more f (p.token ∷ (cut.1 ++ more)) q.begins.2 (p.each y (cut.1 ++ more) spelled) in
     absurd (omega (arith, short, length-append cut.1 more))
 
@@ -66,13 +66,13 @@ not_tested_from : {T F X : Type 0} (g : Grammar T F X) (text rest left : List T)
 not_tested_from {T} g text rest left f q p le =
     elim (cases_lt (length left) (length rest)) [
       | inl lt ↦
-        let cut = earlier p.front left q.front rest (sym p.parts ∙ q.parts) lt in
-        let front_is : p.front ++ p.token ∷ [] ≡ q.front ++ cut.0 ∷ (cut.1 ++ p.token ∷ []) =
+          let cut = earlier p.front left q.front rest (sym p.parts ∙ q.parts) lt in
+          let front_is : p.front ++ p.token ∷ [] ≡ q.front ++ cut.0 ∷ (cut.1 ++ p.token ∷ []) =
           ap (λ (s : List T). s ++ p.token ∷ []) cut.2 ∙ append_assoc q.front (cut.0 ∷ cut.1) (p.token ∷ []) in
-        no_further g q.front rest cut.0 (cut.1 ++ p.token ∷ []) (cut.1 ++ left) q.stuck cut.3 (subst (CanBegin g) front_is p.begins)
+          no_further g q.front rest cut.0 (cut.1 ++ p.token ∷ []) (cut.1 ++ left) q.stuck cut.3 (subst (CanBegin g) front_is p.begins)
       | inr ge ↦
-        let both = same_cut q.front rest p.front left (sym q.parts ∙ p.parts) (omega (arith, le, ge)) in
-        no_further g q.front rest p.token [] p.after q.stuck (both.1 ∙ p.at)
+          let both = same_cut q.front rest p.front left (sym q.parts ∙ p.parts) (omega (arith, le, ge)) in
+          no_further g q.front rest p.token [] p.after q.stuck (both.1 ∙ p.at)
           (subst (λ (s : List T). CanBegin g (s ++ p.token ∷ [])) (sym both.0) p.begins)
     ]
 

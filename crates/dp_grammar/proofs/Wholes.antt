@@ -60,8 +60,8 @@ behind_value {T} {F} {X} g l text x t rest tell =
       parts = tell.0;
       begins = (x, [], sym (append-nil (g.spell x)));
       stuck = λ c.
-        let read = alone g l c.0 (g.spell x ++ t ∷ c.1) (c.2 ∙ append_assoc (g.spell x) (t ∷ []) c.1) in
-        no_more (g.fault c.0) c.0 x t c.1 (sym read ∙ takes (t ∷ c.1));
+          let read = alone g l c.0 (g.spell x ++ t ∷ c.1) (c.2 ∙ append_assoc (g.spell x) (t ∷ []) c.1) in
+          no_more (g.fault c.0) c.0 x t c.1 (sym read ∙ takes (t ∷ c.1));
       passes = λ y more f at e fault. absurd (no_fault (g.fault y) y x more f at (sym (alone g l y (g.spell x ++ more) e) ∙ takes more) fault);
     }
 
@@ -87,10 +87,10 @@ passes_front {T} g l text rest r y more f at e fault =
     elim (cases_lt (length more) (length at)) [
       | inr le ↦ le
       | inl lt ↦
-        let q = refused_value g l y f at fault in
-        let cut = earlier r.front more q.front at (sym e ∙ q.parts) lt in
-        let same : q.front ++ (cut.0 ∷ (cut.1 ++ rest)) ≡ r.front ++ rest = sym (append_assoc q.front (cut.0 ∷ cut.1) rest) ∙ ap (λ (s : List T). s ++ rest) (sym cut.2) in
-        absurd (differ f (cut.0 ∷ (cut.1 ++ rest)) rest (g.read (r.front ++ rest))
+          let q = refused_value g l y f at fault in
+          let cut = earlier r.front more q.front at (sym e ∙ q.parts) lt in
+          let same : q.front ++ (cut.0 ∷ (cut.1 ++ rest)) ≡ r.front ++ rest = sym (append_assoc q.front (cut.0 ∷ cut.1) rest) ∙ ap (λ (s : List T). s ++ rest) (sym cut.2) in
+          absurd (differ f (cut.0 ∷ (cut.1 ++ rest)) rest (g.read (r.front ++ rest))
           (ap g.read (sym same) ∙ q.firm (cut.0 ∷ (cut.1 ++ rest)) (sym (ap (λ (s : List T). head s) cut.3)))
           (r.firm rest refl))
     ]

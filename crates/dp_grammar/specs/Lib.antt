@@ -1,3 +1,4 @@
+pub mod Brackets
 pub mod Chain
 pub mod Choice
 pub mod Grammar

@@ -1,6 +1,7 @@
 //! The laws of grammars, for every type of tokens, tests and values.
 
 ghost use Rattle.std.specs.Prelude.{◌≡◌, Bool, List, Result};
+ghost use Rattle.dp_grammar.specs.Brackets.{Bracketing, IsBracketing, inside};
 ghost use Rattle.dp_grammar.specs.Chain.{IsShape, before_mark, behind_mark, chain, shaped};
 ghost use Rattle.dp_grammar.specs.Choice.{AreApart, begins, either};
 ghost use Rattle.dp_grammar.specs.Grammar.{Cause, Grammar, IsLawful};
@@ -14,8 +15,7 @@ pub fn exactness<T, F, X>()
     ensures says { (g : Grammar T F X) → IsLawful g → (text : List T) → Says g text (whole g text) }
     ensures only { (g : Grammar T F X) → IsLawful g → (text : List T) (answer : Result X (Cause F × List T)) →
         Says g text answer → answer ≡ whole g text }
-{
-}
+{}
 
 /// Productions that are built of lawful ones are lawful.
 pub fn productions<T, F, X, Y>()
@@ -31,8 +31,10 @@ pub fn productions<T, F, X, Y>()
         AreApart test g h → IsLawful g → IsLawful h → IsLawful (either test g h) }
     ensures many { (r : Repeat T F X Y) → IsRepeat r → IsLawful (many r) }
 
+    // Here the kinds of brackets are of type Y.
+    ensures inside { (b : Bracketing T X Y) → IsBracketing b → (opened : List Y) → IsLawful (inside {F = F} b opened) }
+
     // Repetition is an item and what follows it, or the close.
     ensures repeats { (r : Repeat T F X Y) → IsRepeat r → (kept : List X) (text : List T) →
         (many_behind r kept).read text ≡ step r kept text (begins r.goes_on text) }
-{
-}
+{}

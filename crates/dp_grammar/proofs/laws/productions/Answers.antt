@@ -1,3 +1,4 @@
+use Rattle.dp_grammar.proofs.Bracketings.{inside_lawful}
 use Rattle.dp_grammar.proofs.Leaves.{leaf_lawful, mark_lawful}
 use Rattle.dp_grammar.proofs.Chains.{chain_lawful, shaped_lawful, behind_mark_lawful, before_mark_lawful}
 use Rattle.dp_grammar.proofs.Choices.{either_lawful}
@@ -30,3 +31,6 @@ returns-clause-many g c = λ r is. many_lawful r is
 
 pub returns-clause-repeats : goal.returns-clause-repeats
 returns-clause-repeats g c = λ r is kept text. unrolled r is kept text
+
+pub returns-clause-inside : goal.returns-clause-inside
+returns-clause-inside g c = λ b is opened. inside_lawful _ b is opened
