@@ -1,6 +1,6 @@
 -- What stands inside brackets is lawful.
-use Rattle.std.proofs.Common.{◌≡◌, Bool, true, false, List, [], ◌∷◌, ◌++◌, Option, Some, None, cond, refl, sym, ap, ◌∙◌}
-use Rattle.dp_grammar.specs.Grammar.{Cause, Syntax, Reading, Takes, Stops, Grammar, head, Tells, IsLawful}
+use Rattle.std.proofs.Common.{◌≡◌, Bool, true, false, List, [], ◌∷◌, ◌++◌, None, cond, refl, sym, ap, ◌∙◌}
+use Rattle.dp_grammar.specs.Grammar.{Syntax, Takes, Stops, head, Tells, IsLawful}
 use Rattle.dp_grammar.specs.Chain.{mapped}
 use Rattle.dp_grammar.specs.Brackets.{Class, Plain, Opens, Closes, Bracketing, IsBracketing, Inside, Out, Token, Open, Close, spell_inside, read_class, read_inside, inside}
 use Rattle.dp_grammar.proofs.Carry.{behind}

@@ -1,6 +1,6 @@
 -- What is said of a part of a text is said of the whole.
 use Rattle.std.proofs.Common.{◌≡◌, List, [], ◌∷◌, ◌++◌, Option, Some, None, refl, sym, ap, ◌∙◌, append_assoc}
-use Rattle.dp_grammar.specs.Grammar.{Cause, Syntax, Test, Reading, Takes, Stops, Grammar, head, allowed, HasToken, verdict, IsRefused, Tells}
+use Rattle.dp_grammar.specs.Grammar.{Cause, Test, Reading, Takes, Stops, Grammar, head, allowed, verdict, IsRefused, Tells}
 use Rattle.dp_grammar.specs.Chain.{followed, mapped, first_fault}
 
 pub head-append : {T : Type 0} (front a b : List T) → head a ≡ head b → head (front ++ a) ≡ head (front ++ b)

@@ -1,7 +1,7 @@
 -- A chain of lawful productions is lawful, and so is a lawful production in another shape.
-use Rattle.std.proofs.Common.{◌≡◌, List, [], ◌∷◌, ◌++◌, Option, Some, None, refl, sym, ap, ◌∙◌, append_assoc}
-use Rattle.dp_grammar.specs.Grammar.{Cause, Reading, Takes, Stops, Grammar, verdict, Tells, IsLawful}
-use Rattle.dp_grammar.specs.Chain.{followed, mapped, first_fault, chain, shaped, behind_mark, before_mark, IsShape}
+use Rattle.std.proofs.Common.{List, [], ◌++◌, Option, refl, ap, ◌∙◌, append_assoc}
+use Rattle.dp_grammar.specs.Grammar.{Reading, Takes, Stops, Grammar, verdict, Tells, IsLawful}
+use Rattle.dp_grammar.specs.Chain.{followed, mapped, chain, shaped, behind_mark, before_mark, IsShape}
 use Rattle.dp_grammar.proofs.Carry.{mapped_verdict, no_first_fault, chained, behind, within}
 
 chain_tells : {T F X Y : Type 0} (g : Grammar T F X) (next : X → Grammar T F Y) → IsLawful g → ((x : X) → IsLawful (next x))

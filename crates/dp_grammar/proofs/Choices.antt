@@ -1,6 +1,6 @@
 -- A choice between lawful productions that stand apart is lawful.
-use Rattle.std.proofs.Common.{◌≡◌, Bool, true, false, ◌⊎◌, inl, inr, List, [], ◌∷◌, ◌++◌, Option, Some, None, refl, sym, ap, ◌∙◌}
-use Rattle.dp_grammar.specs.Grammar.{Reading, Grammar, head, verdict, Tells, IsLawful}
+use Rattle.std.proofs.Common.{◌≡◌, Bool, true, false, ◌⊎◌, inl, inr, List, [], ◌∷◌, ◌++◌, refl, ap, ◌∙◌}
+use Rattle.dp_grammar.specs.Grammar.{Grammar, verdict, Tells, IsLawful}
 use Rattle.dp_grammar.specs.Chain.{mapped}
 use Rattle.dp_grammar.specs.Choice.{passes, begins, IsLed, read_either, either, AreApart}
 use Rattle.dp_grammar.proofs.Carry.{mapped_verdict, behind}

@@ -1,6 +1,6 @@
 -- A leaf is lawful.
-use Rattle.std.proofs.Common.{◌≡◌, Bool, true, false, List, [], ◌∷◌, ◌++◌, Option, Some, None, cond, refl, sym, ap, ◌∙◌}
-use Rattle.dp_grammar.specs.Grammar.{Cause, Syntax, Test, Reading, Takes, Stops, Grammar, head, verdict, IsRefused, Tells, IsLawful}
+use Rattle.std.proofs.Common.{◌≡◌, Bool, true, false, List, [], ◌∷◌, Option, Some, None, cond, refl, sym, ap, ◌∙◌}
+use Rattle.dp_grammar.specs.Grammar.{Cause, Syntax, Test, Stops, head, verdict, Tells, IsLawful}
 use Rattle.dp_grammar.specs.Leaf.{Leaf, IsLeaf, fault_at, tested, valued, leaf, only, IsOnly, mark}
 
 tested_verdict : {T F X : Type 0} (o : Option F) (x : X) (t : T) (rest : List T) → tested o x t rest ≡ verdict (fault_at o (t ∷ [])) x rest

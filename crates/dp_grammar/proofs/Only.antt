@@ -1,8 +1,8 @@
 -- The grammar says one thing of a text.
-use Rattle.std.proofs.Common.{◌≡◌, ℕ, suc, ◌<◌, ◌≤◌, ◌⊎◌, inl, inr, List, [], ◌∷◌, ◌++◌, length, Option, Some, None, Result, Ok, Err, refl, sym, ap, subst, ◌∙◌, append_assoc, length-append, arith}
+use Rattle.std.proofs.Common.{◌≡◌, suc, ◌<◌, ◌≤◌, inl, inr, List, [], ◌∷◌, ◌++◌, length, Option, Result, Ok, Err, refl, sym, ap, subst, ◌∙◌, append_assoc, length-append, arith}
 use Rattle.std.proofs.lemmas.List.{append-nil, append_cancel_right}
 use Rattle.std.proofs.lemmas.Bool.{cases_lt}
-use Rattle.dp_grammar.specs.Grammar.{Cause, Syntax, Test, Reading, Grammar, head, verdict, IsLawful}
+use Rattle.dp_grammar.specs.Grammar.{Cause, Syntax, Test, Grammar, head, verdict, IsLawful}
 use Rattle.dp_grammar.specs.Whole.{CanBegin, IsStuck, IsSyntax, IsTested, Says, finished, whole}
 use Rattle.dp_grammar.proofs.Wholes.{alone, earlier, refused_value, whole_says}
 

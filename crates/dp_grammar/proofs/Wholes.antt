@@ -1,9 +1,9 @@
 -- Reading a whole text answers what the grammar says.
-use Rattle.std.proofs.Common.{◌≡◌, ℕ, suc, ◌<◌, ◌≤◌, ◌⊎◌, inl, inr, List, [], ◌∷◌, ◌++◌, length, Option, Some, None, Result, Ok, Err, refl, sym, ap, subst, ◌∙◌, append_assoc, length-append, arith}
-use Rattle.std.proofs.lemmas.List.{append-nil, append_cancel_right}
+use Rattle.std.proofs.Common.{◌≡◌, suc, ◌<◌, ◌≤◌, inl, inr, List, [], ◌∷◌, ◌++◌, length, Option, Some, None, refl, sym, ap, subst, ◌∙◌, append_assoc, length-append, arith}
+use Rattle.std.proofs.lemmas.List.{append-nil}
 use Rattle.std.proofs.lemmas.Bool.{cases_lt}
-use Rattle.dp_grammar.specs.Grammar.{Cause, Syntax, Test, Reading, Takes, Stops, Grammar, head, HasToken, verdict, IsRefused, Tells, IsLawful}
-use Rattle.dp_grammar.specs.Whole.{CanBegin, IsStuck, IsSyntax, IsTested, IsFirstRefusal, Says, finished, whole}
+use Rattle.dp_grammar.specs.Grammar.{Syntax, Test, Reading, Takes, Stops, Grammar, head, verdict, IsRefused, Tells, IsLawful}
+use Rattle.dp_grammar.specs.Whole.{IsStuck, IsSyntax, IsTested, Says, finished, whole}
 
 -- ---- what a spelling is read as
 

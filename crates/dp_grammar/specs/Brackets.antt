@@ -1,6 +1,6 @@
 -- All tokens up to the one that closes a bracket, where the brackets between match.
-use Rattle.std.specs.Prelude.{◌≡◌, Bool, true, if◌then◌else◌, List, [], ◌∷◌, Option, None}
-use Rattle.dp_grammar.specs.Grammar.{Cause, Syntax, Reading, Takes, Stops, Grammar}
+use Rattle.std.specs.Prelude.{◌≡◌, Bool, true, if◌then◌else◌, List, [], ◌∷◌, None}
+use Rattle.dp_grammar.specs.Grammar.{Syntax, Reading, Takes, Stops, Grammar}
 use Rattle.dp_grammar.specs.Chain.{mapped}
 
 -- a plain token, or one that opens or closes brackets of a kind

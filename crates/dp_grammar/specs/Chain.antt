@@ -1,6 +1,6 @@
 -- One production after another, and a production whose values are seen otherwise.
-use Rattle.std.specs.Prelude.{◌≡◌, List, [], ◌∷◌, ◌++◌, Option, Some, None}
-use Rattle.dp_grammar.specs.Grammar.{Cause, Reading, Takes, Stops, Grammar}
+use Rattle.std.specs.Prelude.{◌≡◌, List, ◌++◌, Option, Some, None}
+use Rattle.dp_grammar.specs.Grammar.{Reading, Takes, Stops, Grammar}
 
 -- goes on behind a value; a refusal stands
 abbrev pub followed : {T F X Y : Type 0} → Reading T F X → (X → List T → Reading T F Y) → Reading T F Y

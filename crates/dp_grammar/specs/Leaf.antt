@@ -1,6 +1,6 @@
 -- Productions of one token.
 use Rattle.std.specs.Prelude.{◌≡◌, Bool, true, if◌then◌else◌, List, [], ◌∷◌, Option, Some, None}
-use Rattle.dp_grammar.specs.Grammar.{Cause, Syntax, Test, Reading, Takes, Stops, Grammar}
+use Rattle.dp_grammar.specs.Grammar.{Syntax, Test, Reading, Takes, Stops, Grammar}
 
 -- which value a token stands for, the token of a value, and the first test that refuses the value
 pub record Leaf (T F X : Type 0) : Type 0 where

@@ -1,5 +1,5 @@
 -- A whole text, in words that know nothing of reading: whose spelling it is, or what refuses it first, and where.
-use Rattle.std.specs.Prelude.{◌≡◌, ◌≢◌, ℕ, ◌≤◌, List, [], ◌∷◌, ◌++◌, length, Option, Some, None, Result, Ok, Err}
+use Rattle.std.specs.Prelude.{◌≡◌, ◌≢◌, ◌≤◌, List, [], ◌∷◌, ◌++◌, length, Some, None, Result, Ok, Err}
 use Rattle.dp_grammar.specs.Grammar.{Cause, Syntax, Test, Reading, Takes, Stops, Grammar}
 
 -- some value's spelling begins so

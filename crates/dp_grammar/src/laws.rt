@@ -3,10 +3,10 @@
 ghost use Rattle.std.specs.Prelude.{◌≡◌, Bool, List, Result};
 ghost use Rattle.dp_grammar.specs.Brackets.{Bracketing, IsBracketing, inside};
 ghost use Rattle.dp_grammar.specs.Chain.{IsShape, before_mark, behind_mark, chain, shaped};
-ghost use Rattle.dp_grammar.specs.Choice.{AreApart, begins, either};
+ghost use Rattle.dp_grammar.specs.Choice.{AreApart, either};
 ghost use Rattle.dp_grammar.specs.Grammar.{Cause, Grammar, IsLawful};
 ghost use Rattle.dp_grammar.specs.Leaf.{IsLeaf, IsOnly, Leaf, leaf, mark};
-ghost use Rattle.dp_grammar.specs.Many.{IsRepeat, Repeat, many, many_behind, step};
+ghost use Rattle.dp_grammar.specs.Many.{IsLink, IsRepeat, Link, Repeat, links, links_behind, many, step};
 ghost use Rattle.dp_grammar.specs.Whole.{Says, whole};
 
 /// Reading a whole text answers what the grammar says of it: the value that is spelled so and passes each test, or the
@@ -25,16 +25,20 @@ pub fn productions<T, F, X, Y>()
         IsLawful g → ((x : X) → IsLawful (next x)) → IsLawful (chain g next) }
     ensures shaped { (make : X → Y) (unmake : Y → X) (g : Grammar T F X) →
         IsShape make unmake → IsLawful g → IsLawful (shaped make unmake g) }
-    ensures behind_mark { (m : Grammar T F (Unit {0})) (g : Grammar T F X) → IsLawful m → IsLawful g → IsLawful (behind_mark m g) }
-    ensures before_mark { (g : Grammar T F X) (m : Grammar T F (Unit {0})) → IsLawful g → IsLawful m → IsLawful (before_mark g m) }
+    ensures behind_mark { (m : Grammar T F (Unit {0})) (g : Grammar T F X) →
+        IsLawful m → IsLawful g → IsLawful (behind_mark m g) }
+    ensures before_mark { (g : Grammar T F X) (m : Grammar T F (Unit {0})) →
+        IsLawful g → IsLawful m → IsLawful (before_mark g m) }
     ensures either { (test : T → Bool) (g : Grammar T F X) (h : Grammar T F Y) →
         AreApart test g h → IsLawful g → IsLawful h → IsLawful (either test g h) }
+    ensures links { (link : Link T F X Y) → IsLink link → IsLawful (links link) }
     ensures many { (r : Repeat T F X Y) → IsRepeat r → IsLawful (many r) }
 
     // Here the kinds of brackets are of type Y.
-    ensures inside { (b : Bracketing T X Y) → IsBracketing b → (opened : List Y) → IsLawful (inside {F = F} b opened) }
+    ensures inside { (b : Bracketing T X Y) → IsBracketing b → (opened : List Y) →
+        IsLawful (inside {F = F} b opened) }
 
-    // Repetition is an item and what follows it, or the close.
-    ensures repeats { (r : Repeat T F X Y) → IsRepeat r → (kept : List X) (text : List T) →
-        (many_behind r kept).read text ≡ step r kept text (begins r.goes_on text) }
+    // Links are read one by one.
+    ensures unrolled { (link : Link T F X Y) → IsLink link → (kept : List X) (text : List T) →
+        (links_behind link kept).read text ≡ step link kept text }
 {}

@@ -2,7 +2,7 @@ use Rattle.dp_grammar.proofs.Bracketings.{inside_lawful}
 use Rattle.dp_grammar.proofs.Leaves.{leaf_lawful, mark_lawful}
 use Rattle.dp_grammar.proofs.Chains.{chain_lawful, shaped_lawful, behind_mark_lawful, before_mark_lawful}
 use Rattle.dp_grammar.proofs.Choices.{either_lawful}
-use Rattle.dp_grammar.proofs.Manys.{many_lawful, unrolled}
+use Rattle.dp_grammar.proofs.Manys.{links_lawful, many_lawful, unrolled}
 use Rattle.dp_grammar.proofs.laws.productions.Goals as goal
 
 pub returns-clause-leaf : goal.returns-clause-leaf
@@ -29,8 +29,11 @@ returns-clause-either g c = λ test first second apart first_is second_is. eithe
 pub returns-clause-many : goal.returns-clause-many
 returns-clause-many g c = λ r is. many_lawful r is
 
-pub returns-clause-repeats : goal.returns-clause-repeats
-returns-clause-repeats g c = λ r is kept text. unrolled r is kept text
+pub returns-clause-links : goal.returns-clause-links
+returns-clause-links g c = λ link is. links_lawful link is
+
+pub returns-clause-unrolled : goal.returns-clause-unrolled
+returns-clause-unrolled g c = λ link is kept text. unrolled link is kept text
 
 pub returns-clause-inside : goal.returns-clause-inside
 returns-clause-inside g c = λ b is opened. inside_lawful _ b is opened
