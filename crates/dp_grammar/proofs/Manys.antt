@@ -75,7 +75,7 @@ again_behind {T} {F} {X} {C} link is (x ∷ xs) kept c rest =
     ∙ chained ((link kept).fault (inl x)) (inl x) tail rest (linked (after link kept)) (fault_behind link (kept ++ x ∷ []) xs c) (x ∷ xs, c)
     (ap (mapped (with_item x)) (again_behind link is xs (kept ++ x ∷ []) c rest) ∙ mapped_verdict (with_item x) (fault_behind link (kept ++ x ∷ []) xs c) (xs, c) rest)
 
-shorter : {T : Type 0} (text s rest : List T) (n : ℕ) → IsLed (λ _. true) true s → text ≡ s ++ rest → length text < suc n → length rest < n
+pub shorter : {T : Type 0} (text s rest : List T) (n : ℕ) → IsLed (λ _. true) true s → text ≡ s ++ rest → length text < suc n → length rest < n
 shorter text [] rest n led e lt = absurd led
 shorter {T} text (u ∷ s) rest n led e lt =
     let len : length text ≡ suc (length (s ++ rest)) = ap (λ (q : List T). length q) e in
@@ -137,14 +137,17 @@ links_lawful link is =
 
 -- ---- items up to what closes them
 
-led_at_all : {T : Type 0} (test : T → Bool) (says : Bool) (s : List T) → IsLed test says s → IsLed (λ _. true) true s
+pub led_at_all : {T : Type 0} (test : T → Bool) (says : Bool) (s : List T) → IsLed test says s → IsLed (λ _. true) true s
 led_at_all test says [] led = led
 led_at_all test says (t ∷ s) led = refl
 
+-- the links of items up to a close
+pub many_links : {T F X C : Type 0} (r : Repeat T F X C) → IsRepeat r → IsLink (λ kept. either r.goes_on (r.item kept) (r.close kept))
+many_links r is = record {
+  lawful = λ kept. either_lawful r.goes_on (r.item kept) (r.close kept) (record { first = is.begins kept; second = is.ends kept }) (is.item kept) (is.close kept);
+  takes = λ kept x. led_at_all r.goes_on true ((r.item kept).spell x) (is.begins kept x);
+  end = λ kept. (is.close kept).some;
+}
+
 pub many_lawful : {T F X C : Type 0} (r : Repeat T F X C) → IsRepeat r → IsLawful (many r)
-many_lawful r is =
-    links_lawful (λ kept. either r.goes_on (r.item kept) (r.close kept)) (record {
-      lawful = λ kept. either_lawful r.goes_on (r.item kept) (r.close kept) (record { first = is.begins kept; second = is.ends kept }) (is.item kept) (is.close kept);
-      takes = λ kept x. led_at_all r.goes_on true ((r.item kept).spell x) (is.begins kept x);
-      end = λ kept. (is.close kept).some;
-    })
+many_lawful r is = links_lawful (λ kept. either r.goes_on (r.item kept) (r.close kept)) (many_links r is)
