@@ -3,6 +3,7 @@ pub mod Carry
 pub mod Chains
 pub mod Choices
 pub mod Leaves
+pub mod Lists
 pub mod Loops
 pub mod Manys
 pub mod Only

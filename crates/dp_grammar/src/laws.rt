@@ -6,6 +6,7 @@ ghost use Rattle.dp_grammar.specs.Chain.{IsShape, before_mark, behind_mark, chai
 ghost use Rattle.dp_grammar.specs.Choice.{AreApart, either};
 ghost use Rattle.dp_grammar.specs.Grammar.{Cause, Grammar, IsLawful};
 ghost use Rattle.dp_grammar.specs.Leaf.{IsLeaf, IsOnly, Leaf, leaf, mark};
+ghost use Rattle.dp_grammar.specs.Listed.{IsListing, Listing, listed};
 ghost use Rattle.dp_grammar.specs.Many.{IsLink, IsRepeat, Link, Repeat, links, links_behind, many, step};
 ghost use Rattle.dp_grammar.specs.Whole.{Says, whole};
 
@@ -33,6 +34,7 @@ pub fn productions<T, F, X, Y>()
         AreApart test g h → IsLawful g → IsLawful h → IsLawful (either test g h) }
     ensures links { (link : Link T F X Y) → IsLink link → IsLawful (links link) }
     ensures many { (r : Repeat T F X Y) → IsRepeat r → IsLawful (many r) }
+    ensures listed { (l : Listing T F X) → IsListing l → IsLawful (listed l) }
 
     // Here the kinds of brackets are of type Y.
     ensures inside { (b : Bracketing T X Y) → IsBracketing b → (opened : List Y) →

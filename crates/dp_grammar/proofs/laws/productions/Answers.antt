@@ -2,6 +2,7 @@ use Rattle.dp_grammar.proofs.Bracketings.{inside_lawful}
 use Rattle.dp_grammar.proofs.Leaves.{leaf_lawful, mark_lawful}
 use Rattle.dp_grammar.proofs.Chains.{chain_lawful, shaped_lawful, behind_mark_lawful, before_mark_lawful}
 use Rattle.dp_grammar.proofs.Choices.{either_lawful}
+use Rattle.dp_grammar.proofs.Lists.{listed_lawful}
 use Rattle.dp_grammar.proofs.Manys.{links_lawful, many_lawful, unrolled}
 use Rattle.dp_grammar.proofs.laws.productions.Goals as goal
 
@@ -37,3 +38,6 @@ returns-clause-unrolled g c = λ link is kept text. unrolled link is kept text
 
 pub returns-clause-inside : goal.returns-clause-inside
 returns-clause-inside g c = λ b is opened. inside_lawful _ b is opened
+
+pub returns-clause-listed : goal.returns-clause-listed
+returns-clause-listed g c = λ l is. listed_lawful l is

@@ -1,0 +1,8 @@
+//! The items of FlatZinc text, integer profile: what a model consists of, and the table of its constraints.
+#![tactic(auto)]
+
+mod kinds;
+mod model;
+
+pub use kinds::{ArgKind, ConstraintKind};
+pub use model::{Basic, Constraint, Expr, Item, Model, ModelGoal, SetText, VarType};
