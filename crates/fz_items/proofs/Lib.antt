@@ -1,0 +1,3 @@
+pub mod AnnotationLaws
+pub mod LiteralLaws
+pub mod MarkLaws
