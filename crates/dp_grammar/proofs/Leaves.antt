@@ -1,7 +1,7 @@
 -- A leaf is lawful.
 use Rattle.std.proofs.Common.{◌≡◌, Bool, true, false, List, [], ◌∷◌, Option, Some, None, cond, refl, sym, ap, ◌∙◌}
 use Rattle.dp_grammar.specs.Grammar.{Cause, Syntax, Test, Stops, head, verdict, Tells, IsLawful}
-use Rattle.dp_grammar.specs.Leaf.{Leaf, IsLeaf, fault_at, tested, valued, leaf, only, IsOnly, mark}
+use Rattle.dp_grammar.specs.Leaf.{Leaf, IsLeaf, fault_at, tested, valued, leaf, only, IsOnly, mark, tested_mark}
 
 tested_verdict : {T F X : Type 0} (o : Option F) (x : X) (t : T) (rest : List T) → tested o x t rest ≡ verdict (fault_at o (t ∷ [])) x rest
 tested_verdict None x t rest = refl
@@ -73,10 +73,13 @@ only_token : {T : Type 0} (is : T → Bool) (t u : T) → IsOnly is t → (b : B
 only_token is t u h true e x v = h.no_other u e
 only_token is t u h false e x v = absurd cc
 
-pub mark_lawful : {T F : Type 0} (is : T → Bool) (t : T) → IsOnly is t → IsLawful (mark {T = T} {F = F} is t)
-mark_lawful {T} {F} is t h =
-    leaf_lawful (only {T = T} {F = F} is t) (record {
+pub tested_mark_lawful : {T F : Type 0} (is : T → Bool) (t : T) (refusal : Option F) → IsOnly is t → IsLawful (tested_mark is t refusal)
+tested_mark_lawful {T} {F} is t refusal h =
+    leaf_lawful (only is t refusal) (record {
       some = tt;
       value_is = λ x. ap (λ (b : Bool). cond b (Some tt) None) h.itself;
       token_is = λ u x e. only_token is t u h (is u) refl x e;
     })
+
+pub mark_lawful : {T F : Type 0} (is : T → Bool) (t : T) → IsOnly is t → IsLawful (mark {T = T} {F = F} is t)
+mark_lawful is t h = tested_mark_lawful is t None h

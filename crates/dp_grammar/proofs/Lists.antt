@@ -1,8 +1,8 @@
 -- A list of lawful items is lawful.
-use Rattle.std.proofs.Common.{◌≡◌, Bool, true, false, ◌⊎◌, inl, inr, List, [], ◌∷◌, ◌++◌, refl}
-use Rattle.dp_grammar.specs.Grammar.{Grammar, IsLawful}
-use Rattle.dp_grammar.specs.Leaf.{mark, IsOnly}
-use Rattle.dp_grammar.specs.Chain.{chain, behind_mark, shaped}
+use Rattle.std.proofs.Common.{◌≡◌, Bool, false, ◌⊎◌, inl, inr, List, [], ◌∷◌, ◌++◌, refl}
+use Rattle.dp_grammar.specs.Grammar.{IsLawful}
+use Rattle.dp_grammar.specs.Leaf.{mark}
+use Rattle.dp_grammar.specs.Chain.{chain}
 use Rattle.dp_grammar.specs.Choice.{IsLed, either}
 use Rattle.dp_grammar.specs.Many.{many, IsRepeat}
 use Rattle.dp_grammar.specs.Listed.{Listing, further, list_of, parts_of, listed, IsListing}
@@ -26,17 +26,16 @@ parts (x ∷ xs) = refl
 further_is : {T F X : Type 0} (l : Listing T F X) → IsListing l → (x : X) → IsRepeat (further l x)
 further_is l is x = record {
   item = λ more. behind_mark_lawful (mark l.is_separator l.separator) (l.item (x ∷ more)) (mark_lawful l.is_separator l.separator is.separates) (is.item (x ∷ more));
-  close = λ more. mark_lawful l.is_close l.close is.closes;
+  close = λ more. is.close (x ∷ more);
   begins = λ more y. is.separates.itself;
-  ends = λ more c. is.apart;
+  ends = λ more c. is.apart (x ∷ more) c;
 }
 
 pub listed_lawful : {T F X : Type 0} (l : Listing T F X) → IsListing l → IsLawful (listed l)
 listed_lawful l is =
-    let first = mark l.is_close l.close in
     let second = chain (l.item []) (λ x. many (further l x)) in
-    shaped_lawful list_of parts_of (either l.is_close first second) (record { opens = lists; makes = parts })
-      (either_lawful l.is_close first second
-        (record { first = λ u. is.closes.itself; second = λ p. led-append l.is_close false ((l.item []).spell p.0) ((many (further l p.0)).spell p.1) (is.begins [] p.0) })
-        (mark_lawful l.is_close l.close is.closes)
-        (chain_lawful (l.item []) (λ x. many (further l x)) (is.item []) (λ x. many_lawful (further l x) (further_is l is x))))
+    shaped_lawful list_of parts_of (either l.is_close (l.close []) second) (record { opens = lists; makes = parts })
+    (either_lawful l.is_close (l.close []) second
+    (record { first = is.closes []; second = λ p. led-append l.is_close false ((l.item []).spell p.0) ((many (further l p.0)).spell p.1) (is.begins [] p.0) })
+    (is.close [])
+    (chain_lawful (l.item []) (λ x. many (further l x)) (is.item []) (λ x. many_lawful (further l x) (further_is l is x))))

@@ -1,10 +1,10 @@
 -- What a loop that reads links keeps: the items so far stand before what is read behind them.
-use Rattle.std.proofs.Common.{◌≡◌, ℕ, suc, ◌<◌, Bool, true, false, ◌⊎◌, inl, inr, List, [], ◌∷◌, ◌++◌, length, refl, sym, ap, subst, ◌∙◌, append_assoc, arith}
+use Rattle.std.proofs.Common.{◌≡◌, ◌<◌, Bool, true, false, ◌⊎◌, inl, inr, List, [], ◌∷◌, ◌++◌, length, refl, sym, ap, subst, ◌∙◌, append_assoc, arith}
 use Rattle.std.proofs.lemmas.List.{append-nil}
 use Rattle.dp_grammar.specs.Grammar.{Cause, Reading, Takes, Stops, Grammar, Tells}
 use Rattle.dp_grammar.specs.Chain.{followed, mapped}
 use Rattle.dp_grammar.specs.Choice.{begins, read_either, either}
-use Rattle.dp_grammar.specs.Many.{Link, with_item, linked, links_behind, IsLink, step, Repeat, many, IsRepeat}
+use Rattle.dp_grammar.specs.Many.{Link, with_item, linked, links_behind, IsLink, Repeat, IsRepeat}
 use Rattle.dp_grammar.proofs.Manys.{unrolled, many_links, shorter, led_at_all}
 
 -- these items, and then those that are read

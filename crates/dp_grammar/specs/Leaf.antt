@@ -36,8 +36,8 @@ leaf l = record { spell = λ x. l.token x ∷ []; fault = λ x. fault_at (l.test
 
 -- ---- one token and no other
 
-abbrev pub only : {T F : Type 0} → (T → Bool) → T → Leaf T F (Unit {0})
-only is t = record { value = λ u. if is u then Some tt else None; token = λ _. t; test = λ _. None }
+abbrev pub only : {T F : Type 0} → (T → Bool) → T → Option F → Leaf T F (Unit {0})
+only is t refusal = record { value = λ u. if is u then Some tt else None; token = λ _. t; test = λ _. refusal }
 
 -- the test is true of this token alone
 pub record IsOnly {T : Type 0} (is : T → Bool) (t : T) : Type 0 where
@@ -46,4 +46,8 @@ pub record IsOnly {T : Type 0} (is : T → Bool) (t : T) : Type 0 where
 
 -- this token
 abbrev pub mark : {T F : Type 0} → (T → Bool) → T → Grammar T F (Unit {0})
-mark is t = leaf (only is t)
+mark is t = leaf (only is t None)
+
+-- this token, which a test of what stands before it may refuse
+abbrev pub tested_mark : {T F : Type 0} → (T → Bool) → T → Option F → Grammar T F (Unit {0})
+tested_mark is t refusal = leaf (only is t refusal)

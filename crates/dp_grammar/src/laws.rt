@@ -1,11 +1,11 @@
 //! The laws of grammars, for every type of tokens, tests and values.
 
-ghost use Rattle.std.specs.Prelude.{◌≡◌, Bool, List, Result};
+ghost use Rattle.std.specs.Prelude.{◌≡◌, Bool, List, Option, Result};
 ghost use Rattle.dp_grammar.specs.Brackets.{Bracketing, IsBracketing, inside};
 ghost use Rattle.dp_grammar.specs.Chain.{IsShape, before_mark, behind_mark, chain, shaped};
 ghost use Rattle.dp_grammar.specs.Choice.{AreApart, either};
 ghost use Rattle.dp_grammar.specs.Grammar.{Cause, Grammar, IsLawful};
-ghost use Rattle.dp_grammar.specs.Leaf.{IsLeaf, IsOnly, Leaf, leaf, mark};
+ghost use Rattle.dp_grammar.specs.Leaf.{IsLeaf, IsOnly, Leaf, leaf, mark, tested_mark};
 ghost use Rattle.dp_grammar.specs.Listed.{IsListing, Listing, listed};
 ghost use Rattle.dp_grammar.specs.Many.{IsLink, IsRepeat, Link, Repeat, links, links_behind, many, step};
 ghost use Rattle.dp_grammar.specs.Whole.{Says, whole};
@@ -22,6 +22,7 @@ pub fn exactness<T, F, X>()
 pub fn productions<T, F, X, Y>()
     ensures leaf { (l : Leaf T F X) → IsLeaf l → IsLawful (leaf l) }
     ensures mark { (is : T → Bool) (t : T) → IsOnly is t → IsLawful (mark {T = T} {F = F} is t) }
+    ensures tested_mark { (is : T → Bool) (t : T) (refusal : Option F) → IsOnly is t → IsLawful (tested_mark is t refusal) }
     ensures chain { (g : Grammar T F X) (next : X → Grammar T F Y) →
         IsLawful g → ((x : X) → IsLawful (next x)) → IsLawful (chain g next) }
     ensures shaped { (make : X → Y) (unmake : Y → X) (g : Grammar T F X) →

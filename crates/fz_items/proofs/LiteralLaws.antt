@@ -12,9 +12,9 @@ use Rattle.dp_grammar.proofs.Chains.{chain_lawful, behind_mark_lawful}
 use Rattle.dp_grammar.proofs.Choices.{either_lawful}
 use Rattle.dp_grammar.proofs.Lists.{listed_lawful}
 use Rattle.fz_items.specs.Literals.{name_of, name, integer_of, integer, range, numbers, set_literal, var_type}
-use Rattle.fz_items.specs.Marks.{Fault, is_key, is_stop, is_open, is_close, keyword, stop, opens}
+use Rattle.fz_items.specs.Marks.{Fault, is_key, is_stop, is_open, is_close, keyword, stop, opens, closes}
 use Rattle.fz_items.specs.Words.{Curly, Comma, DoubleDot, Word, Named, Key, Number, Float, Quoted, Stop}
-use Rattle.fz_items.proofs.MarkLaws.{stop_is_only, close_is_only, keyword_lawful, stop_lawful, opens_lawful}
+use Rattle.fz_items.proofs.MarkLaws.{stop_is_only, keyword_lawful, stop_lawful, opens_lawful, closes_lawful}
 
 name_is : (w : Word) (bytes : List ℕ) → name_of w ≡ Some bytes → Plain (Named bytes) ≡ w
 name_is (Plain (Named other)) bytes e = let same : other ≡ bytes = cc in ap (λ b. Plain (Named b)) (sym same)
@@ -57,21 +57,22 @@ numbers_lawful test =
         is_separator = is_stop Comma;
         separator = Plain (Stop Comma);
         is_close = is_close Curly;
-        close = Closes Curly;
         item = λ kept. integer (test kept);
+        close = λ kept. closes Curly;
       })) (opens_lawful Curly)
       (listed_lawful (record {
         is_separator = is_stop Comma;
         separator = Plain (Stop Comma);
         is_close = is_close Curly;
-        close = Closes Curly;
         item = λ kept. integer (test kept);
+        close = λ kept. closes Curly;
       }) (record {
         separates = stop_is_only Comma;
-        closes = close_is_only Curly;
-        apart = refl;
         item = λ kept. integer_lawful (test kept);
+        close = λ kept. closes_lawful Curly;
         begins = λ kept x. refl;
+        closes = λ kept c. refl;
+        apart = λ kept c. refl;
       }))
 
 pub set_literal_lawful : (test : List (ℤ × Bool) → ℤ → Option Fault) → IsLawful (set_literal test)

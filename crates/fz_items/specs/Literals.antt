@@ -1,7 +1,7 @@
 -- Names, integers, sets and the types of variables, each with a test of its numbers.
 use Rattle.std.specs.Prelude.{ℕ, Bool, ◌⊎◌, List, [], ◌∷◌, Option, Some, None, ℤ}
 use Rattle.fz_token.specs.declared.Keyword.TheVariants as key
-use Rattle.dp_grammar.specs.Brackets.{Plain, Closes}
+use Rattle.dp_grammar.specs.Brackets.{Plain}
 use Rattle.dp_grammar.specs.Chain.{chain, behind_mark}
 use Rattle.dp_grammar.specs.Choice.{either}
 use Rattle.dp_grammar.specs.Leaf.{leaf}
@@ -34,8 +34,8 @@ numbers test = behind_mark (opens Curly) (listed (record {
   is_separator = is_stop Comma;
   separator = Plain (Stop Comma);
   is_close = is_close Curly;
-  close = Closes Curly;
   item = λ kept. integer (test kept);
+  close = λ kept. closes Curly;
 }))
 
 -- numbers in brackets, or a range

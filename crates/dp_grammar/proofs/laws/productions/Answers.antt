@@ -1,5 +1,5 @@
 use Rattle.dp_grammar.proofs.Bracketings.{inside_lawful}
-use Rattle.dp_grammar.proofs.Leaves.{leaf_lawful, mark_lawful}
+use Rattle.dp_grammar.proofs.Leaves.{leaf_lawful, mark_lawful, tested_mark_lawful}
 use Rattle.dp_grammar.proofs.Chains.{chain_lawful, shaped_lawful, behind_mark_lawful, before_mark_lawful}
 use Rattle.dp_grammar.proofs.Choices.{either_lawful}
 use Rattle.dp_grammar.proofs.Lists.{listed_lawful}
@@ -41,3 +41,6 @@ returns-clause-inside g c = λ b is opened. inside_lawful _ b is opened
 
 pub returns-clause-listed : goal.returns-clause-listed
 returns-clause-listed g c = λ l is. listed_lawful l is
+
+pub returns-clause-tested_mark : goal.returns-clause-tested_mark
+returns-clause-tested_mark g c = λ is t refusal only. tested_mark_lawful is t refusal only
