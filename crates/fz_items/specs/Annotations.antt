@@ -1,5 +1,5 @@
 -- Annotations, and what follows the last of them.
-use Rattle.std.specs.Prelude.{ℕ, ◌⊎◌, List, [], ◌∷◌, Option, Some, None}
+use Rattle.std.specs.Prelude.{ℕ, ◌⊎◌, List, [], ◌∷◌, ◌++◌, Option, Some, None}
 use Rattle.std.proofs.Common.{inl, inr}
 use Rattle.dp_grammar.specs.Brackets.{Inside, inside}
 use Rattle.dp_grammar.specs.Chain.{chain, behind_mark, shaped}
@@ -31,9 +31,15 @@ tail close = either (is_stop DoubleColon) (stop DoubleColon) close
 abbrev pub LinkParts : Type 0 → Type 0
 LinkParts C = List ℕ × ((Balanced × Tail C) ⊎ Tail C)
 
-abbrev pub link_parts : {C : Type 0} → Production C → Production (LinkParts C)
-link_parts close =
-    chain (name (λ bytes. None)) (λ bytes. either (is_open Round) (chain (behind_mark (opens Round) balanced) (λ args. tail close)) (tail close))
+-- what closes them may look at them
+abbrev pub Close : Type 0 → Type 0
+Close C = List Annotation → Production C
+
+abbrev pub link_parts : {C : Type 0} → Close C → List Annotation → Production (LinkParts C)
+link_parts close kept =
+    chain (name (λ bytes. None)) (λ bytes. either (is_open Round)
+      (chain (behind_mark (opens Round) balanced) (λ args. tail (close (kept ++ record { name = bytes; args = Some args } ∷ []))))
+      (tail (close (kept ++ record { name = bytes; args = None } ∷ []))))
 
 abbrev pub with_tail : {C : Type 0} → Annotation → Tail C → Annotation ⊎ (Annotation × C)
 with_tail a (inl more) = inl a
@@ -51,9 +57,13 @@ abbrev pub parts_of : {C : Type 0} → Annotation ⊎ (Annotation × C) → Link
 parts_of (inl a) = parts_with a.name a.args (inl tt)
 parts_of (inr p) = parts_with p.0.name p.0.args (inr p.1)
 
-abbrev pub annotation_link : {C : Type 0} → Production C → Link Word Fault Annotation (Annotation × C)
-annotation_link close = λ kept. shaped link_of parts_of (link_parts close)
+abbrev pub annotation_link : {C : Type 0} → Close C → Link Word Fault Annotation (Annotation × C)
+annotation_link close = λ kept. shaped link_of parts_of (link_parts close kept)
 
--- ('::' NAME ('(' balanced ')')?)*, and then the close: the annotations but the last, and the last with the close; or the close alone
-abbrev pub annotated : {C : Type 0} → Production C → Production ((List Annotation × (Annotation × C)) ⊎ C)
-annotated close = either (is_stop DoubleColon) (behind_mark (stop DoubleColon) (links (annotation_link close))) close
+-- the annotations but the last, and the last with the close; or the close alone
+abbrev pub Annotated : Type 0 → Type 0
+Annotated C = (List Annotation × (Annotation × C)) ⊎ C
+
+-- ('::' NAME ('(' balanced ')')?)*, and then the close
+abbrev pub annotated : {C : Type 0} → Close C → Production (Annotated C)
+annotated close = either (is_stop DoubleColon) (behind_mark (stop DoubleColon) (links (annotation_link close))) (close [])

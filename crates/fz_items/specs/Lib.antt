@@ -1,4 +1,6 @@
 pub mod Annotations
+pub mod Context
+pub mod Items
 pub mod Literals
 pub mod Marks
 pub mod Table
