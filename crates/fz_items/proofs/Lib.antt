@@ -1,3 +1,4 @@
 pub mod AnnotationLaws
+pub mod ItemLaws
 pub mod LiteralLaws
 pub mod MarkLaws
