@@ -100,15 +100,16 @@ notes_test size notes = output_test (count_of size.0) (find (λ note. bytes_eq n
 
 -- ---- the items
 
+-- 'bool' or 'int'
+abbrev pub is_bools : Unit {0} ⊎ Unit {0} → Bool
+is_bools (inl bool) = true
+is_bools (inr int) = false
+
 -- ('int' | 'bool') ':' NAME annotations '=' arraylit ';'
 abbrev pub constants : Context → IntText → Production ((Unit {0} ⊎ Unit {0}) × (List ℕ × Annotated (List BasicText)))
 constants context size =
     chain (either (is_key key.Bool) (keyword key.Bool) (keyword key.Int)) (λ kind.
       parameter context (array_literal (constant_element context (is_bools kind)) (size_test size)))
-  where
-    is_bools : Unit {0} ⊎ Unit {0} → Bool
-    is_bools (inl bool) = true
-    is_bools (inr int) = false
 
 -- '=' arraylit ';', where the annotations are tested at the end
 abbrev pub elements_end : Context → IntText → TypeWords → List Annotation → Production (List BasicText)
