@@ -39,14 +39,14 @@ after kept bytes args = kept ++ record { name = bytes; args = args } ∷ []
 link_parts_lawful : {C : Type 0} (close : Close C) → IsClose close → (kept : List Annotation) → IsLawful (link_parts close kept)
 link_parts_lawful close is kept =
     chain_lawful (name (λ bytes. None)) (λ bytes. either (is_open Round)
-        (chain (behind_mark (opens Round) balanced) (λ args. tail (close (after kept bytes (Some args)))))
-        (tail (close (after kept bytes None))))
-      (name_lawful (λ bytes. None))
-      (λ bytes. either_lawful (is_open Round) (chain (behind_mark (opens Round) balanced) (λ args. tail (close (after kept bytes (Some args))))) (tail (close (after kept bytes None)))
-        (record { first = λ x. refl; second = tail_no_args close is (after kept bytes None) })
-        (chain_lawful (behind_mark (opens Round) balanced) (λ args. tail (close (after kept bytes (Some args)))) (behind_mark_lawful (opens Round) balanced (opens_lawful Round) balanced_lawful)
-          (λ args. tail_lawful close is (after kept bytes (Some args))))
-        (tail_lawful close is (after kept bytes None)))
+    (chain (behind_mark (opens Round) balanced) (λ args. tail (close (after kept bytes (Some args)))))
+    (tail (close (after kept bytes None))))
+    (name_lawful (λ bytes. None))
+    (λ bytes. either_lawful (is_open Round) (chain (behind_mark (opens Round) balanced) (λ args. tail (close (after kept bytes (Some args))))) (tail (close (after kept bytes None)))
+    (record { first = λ x. refl; second = tail_no_args close is (after kept bytes None) })
+    (chain_lawful (behind_mark (opens Round) balanced) (λ args. tail (close (after kept bytes (Some args)))) (behind_mark_lawful (opens Round) balanced (opens_lawful Round) balanced_lawful)
+    (λ args. tail_lawful close is (after kept bytes (Some args))))
+    (tail_lawful close is (after kept bytes None)))
 
 parts : {C : Type 0} (p : LinkParts C) → parts_of (link_of p) ≡ p
 parts (bytes, inl (args, inl more)) = refl
@@ -69,11 +69,11 @@ begins_name close kept bytes (Some args) t = refl
 pub annotated_lawful : {C : Type 0} (close : Close C) → IsClose close → IsLawful (annotated close)
 annotated_lawful {C} close is =
     either_lawful (is_stop DoubleColon) (behind_mark (stop DoubleColon) (links (annotation_link close))) (close [])
-      (record { first = λ x. refl; second = is.no_more [] })
-      (behind_mark_lawful (stop DoubleColon) (links (annotation_link close)) (stop_lawful DoubleColon)
-        (links_lawful (annotation_link close) (record {
-          lawful = λ kept. shaped_lawful link_of parts_of (link_parts close kept) (record { opens = parts; makes = makes }) (link_parts_lawful close is kept);
-          takes = λ kept a. begins_name close kept a.name a.args (inl tt);
-          end = λ kept. (record { name = []; args = None }, (is.lawful []).some);
-        })))
-      (is.lawful [])
+    (record { first = λ x. refl; second = is.no_more [] })
+    (behind_mark_lawful (stop DoubleColon) (links (annotation_link close)) (stop_lawful DoubleColon)
+    (links_lawful (annotation_link close) (record {
+      lawful = λ kept. shaped_lawful link_of parts_of (link_parts close kept) (record { opens = parts; makes = makes }) (link_parts_lawful close is kept);
+      takes = λ kept a. begins_name close kept a.name a.args (inl tt);
+      end = λ kept. (record { name = []; args = None }, (is.lawful []).some);
+    })))
+    (is.lawful [])

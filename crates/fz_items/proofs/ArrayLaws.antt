@@ -61,36 +61,36 @@ array_size_lawful : IsLawful array_size
 array_size_lawful =
     let last = before_mark (integer no_test) (closes Square) in
     behind_mark_lawful (opens Square) (chain one (λ dotted. behind_mark (stop DoubleDot) last)) (opens_lawful Square)
-      (chain_lawful one (λ dotted. behind_mark (stop DoubleDot) last) one_lawful
-        (λ dotted. behind_mark_lawful (stop DoubleDot) last (stop_lawful DoubleDot) (before_mark_lawful (integer no_test) (closes Square) (integer_lawful no_test) (closes_lawful Square))))
+    (chain_lawful one (λ dotted. behind_mark (stop DoubleDot) last) one_lawful
+    (λ dotted. behind_mark_lawful (stop DoubleDot) last (stop_lawful DoubleDot) (before_mark_lawful (integer no_test) (closes Square) (integer_lawful no_test) (closes_lawful Square))))
 
 constants_lawful : (context : Context) (size : IntText) → IsLawful (constants context size)
 constants_lawful context size =
     let kinds = either (is_key key.Bool) (keyword key.Bool) (keyword key.Int) in
     chain_lawful kinds (λ kind. parameter context (array_literal (constant_element context (is_bools kind)) (size_test size)))
-      (either_lawful (is_key key.Bool) (keyword key.Bool) (keyword key.Int) (record { first = λ x. refl; second = λ y. refl }) (keyword_lawful key.Bool) (keyword_lawful key.Int))
-      (λ kind. parameter_lawful context (array_literal (constant_element context (is_bools kind)) (size_test size)) (array_literal_lawful (constant_element context (is_bools kind)) (size_test size)))
+    (either_lawful (is_key key.Bool) (keyword key.Bool) (keyword key.Int) (record { first = λ x. refl; second = λ y. refl }) (keyword_lawful key.Bool) (keyword_lawful key.Int))
+    (λ kind. parameter_lawful context (array_literal (constant_element context (is_bools kind)) (size_test size)) (array_literal_lawful (constant_element context (is_bools kind)) (size_test size)))
 
 elements_end_lawful : (context : Context) (size : IntText) (type : TypeWords) (notes : List Annotation) → IsLawful (elements_end context size type notes)
 elements_end_lawful context size type notes =
     let literal = array_literal (variable_element context type) (size_test size) in
     let end = tested_mark (is_stop Semicolon) (Plain (Stop Semicolon)) (notes_test size notes) in
     behind_mark_lawful (stop Equals) (before_mark literal end) (stop_lawful Equals)
-      (before_mark_lawful literal end (array_literal_lawful (variable_element context type) (size_test size))
-        (tested_mark_lawful (is_stop Semicolon) (Plain (Stop Semicolon)) (notes_test size notes) (stop_is_only Semicolon)))
+    (before_mark_lawful literal end (array_literal_lawful (variable_element context type) (size_test size))
+    (tested_mark_lawful (is_stop Semicolon) (Plain (Stop Semicolon)) (notes_test size notes) (stop_is_only Semicolon)))
 
 variables_lawful : (context : Context) (size : IntText) → IsLawful (variables context size)
 variables_lawful context size =
     let names = λ (type : TypeWords). behind_mark (stop Colon) (chain (name (fresh context)) (λ bytes. annotated (elements_end context size type))) in
     behind_mark_lawful (keyword key.Var) (chain (var_type (domain_test context)) names) (keyword_lawful key.Var)
-      (chain_lawful (var_type (domain_test context)) names (var_type_lawful (domain_test context)) (λ type.
-        behind_mark_lawful (stop Colon) (chain (name (fresh context)) (λ bytes. annotated (elements_end context size type))) (stop_lawful Colon)
-          (chain_lawful (name (fresh context)) (λ bytes. annotated (elements_end context size type)) (name_lawful (fresh context))
-            (λ bytes. annotated_lawful (elements_end context size type) (record {
-              lawful = elements_end_lawful context size type;
-              no_more = λ notes c. refl;
-              no_args = λ notes c. refl;
-            })))))
+    (chain_lawful (var_type (domain_test context)) names (var_type_lawful (domain_test context)) (λ type.
+    behind_mark_lawful (stop Colon) (chain (name (fresh context)) (λ bytes. annotated (elements_end context size type))) (stop_lawful Colon)
+    (chain_lawful (name (fresh context)) (λ bytes. annotated (elements_end context size type)) (name_lawful (fresh context))
+    (λ bytes. annotated_lawful (elements_end context size type) (record {
+      lawful = elements_end_lawful context size type;
+      no_more = λ notes c. refl;
+      no_args = λ notes c. refl;
+    })))))
 
 no_var : (context : Context) (size : IntText) (z : (Unit {0} ⊎ Unit {0}) × (List ℕ × Annotated (List BasicText))) → IsLed (is_key key.Var) false ((constants context size).spell z)
 no_var context size (inl x, rest) = refl
@@ -100,8 +100,8 @@ pub array_item_lawful : (context : Context) → IsLawful (array_item context)
 array_item_lawful context =
     let elements = λ (size : Bool × IntText). behind_mark (keyword key.Of) (either (is_key key.Var) (variables context size.1) (constants context size.1)) in
     behind_mark_lawful (keyword key.Array) (chain array_size elements) (keyword_lawful key.Array)
-      (chain_lawful array_size elements array_size_lawful (λ size.
-        behind_mark_lawful (keyword key.Of) (either (is_key key.Var) (variables context size.1) (constants context size.1)) (keyword_lawful key.Of)
-          (either_lawful (is_key key.Var) (variables context size.1) (constants context size.1)
-            (record { first = λ x. refl; second = no_var context size.1 })
-            (variables_lawful context size.1) (constants_lawful context size.1))))
+    (chain_lawful array_size elements array_size_lawful (λ size.
+    behind_mark_lawful (keyword key.Of) (either (is_key key.Var) (variables context size.1) (constants context size.1)) (keyword_lawful key.Of)
+    (either_lawful (is_key key.Var) (variables context size.1) (constants context size.1)
+    (record { first = λ x. refl; second = no_var context size.1 })
+    (variables_lawful context size.1) (constants_lawful context size.1))))

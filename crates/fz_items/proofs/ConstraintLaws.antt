@@ -45,8 +45,8 @@ range_arg_lawful : (wanted : Option ArgKind) → IsLawful (range_arg wanted)
 range_arg_lawful wanted =
     let low : Leaf Word Fault ℤ = record { value = dotted_of; token = λ value. Plain (Number value true); test = λ value. refuse_if (not (wants_set wanted)) Kind } in
     chain_lawful (leaf low) (λ value. behind_mark (stop DoubleDot) (integer no_test))
-      (leaf_lawful low (record { some = pos 0; value_is = λ value. refl; token_is = dotted_is }))
-      (λ value. behind_mark_lawful (stop DoubleDot) (integer no_test) (stop_lawful DoubleDot) (integer_lawful no_test))
+    (leaf_lawful low (record { some = pos 0; value_is = λ value. refl; token_is = dotted_is }))
+    (λ value. behind_mark_lawful (stop DoubleDot) (integer no_test) (stop_lawful DoubleDot) (integer_lawful no_test))
 
 arg_is_of : (x : ArgText) → arg_of (arg_word x) ≡ Some x
 arg_is_of (ArgName bytes) = refl
@@ -88,7 +88,7 @@ arg_is (Closes b) x e = absurd cc
 text_arg_lawful : (context : Context) (wanted : Option ArgKind) → IsLawful (text_arg context wanted)
 text_arg_lawful context wanted =
     leaf_lawful (record { value = arg_of; token = arg_word; test = λ text. known (meaning context (arg_basic text)) (argument_test wanted) })
-      (record { some = ArgTruth true; value_is = arg_is_of; token_is = arg_is })
+    (record { some = ArgTruth true; value_is = arg_is_of; token_is = arg_is })
 
 -- ---- lists
 
@@ -105,14 +105,14 @@ set_arg_lawful : (context : Context) (wanted : Option ArgKind) → IsLawful (set
 set_arg_lawful context wanted =
     let refusal = refuse_if (not (wants_set wanted)) Kind in
     behind_mark_lawful (tested_mark (is_open Curly) (Opens Curly) refusal) (listed (numbers_of context)) (tested_mark_lawful (is_open Curly) (Opens Curly) refusal (open_is_only Curly))
-      (listed_lawful (numbers_of context) (record {
-        separates = stop_is_only Comma;
-        item = λ kept. integer_lawful (λ value. one_more context (length kept));
-        close = λ kept. closes_lawful Curly;
-        begins = λ kept x. refl;
-        closes = λ kept c. refl;
-        apart = λ kept c. refl;
-      }))
+    (listed_lawful (numbers_of context) (record {
+      separates = stop_is_only Comma;
+      item = λ kept. integer_lawful (λ value. one_more context (length kept));
+      close = λ kept. closes_lawful Curly;
+      begins = λ kept x. refl;
+      closes = λ kept c. refl;
+      apart = λ kept c. refl;
+    }))
 
 abbrev elements_of : Context → Option ArgKind → Listing Word Fault BasicText
 elements_of context wanted = record {
@@ -127,14 +127,14 @@ array_arg_lawful : (context : Context) (wanted : Option ArgKind) → IsLawful (a
 array_arg_lawful context wanted =
     let refusal = refuse_if (not (wants_array wanted)) Kind in
     behind_mark_lawful (tested_mark (is_open Square) (Opens Square) refusal) (listed (elements_of context wanted)) (tested_mark_lawful (is_open Square) (Opens Square) refusal (open_is_only Square))
-      (listed_lawful (elements_of context wanted) (record {
-        separates = stop_is_only Comma;
-        item = λ kept. basic_lawful (λ text. or_else (known (meaning context text) (element_test wanted)) (one_more context (length kept)));
-        close = λ kept. closes_lawful Square;
-        begins = λ kept x. basic_no_close Square x;
-        closes = λ kept c. refl;
-        apart = λ kept c. refl;
-      }))
+    (listed_lawful (elements_of context wanted) (record {
+      separates = stop_is_only Comma;
+      item = λ kept. basic_lawful (λ text. or_else (known (meaning context text) (element_test wanted)) (one_more context (length kept)));
+      close = λ kept. closes_lawful Square;
+      begins = λ kept x. basic_no_close Square x;
+      closes = λ kept c. refl;
+      apart = λ kept c. refl;
+    }))
 
 -- ---- an argument
 
@@ -160,14 +160,14 @@ pub argument_lawful : (context : Context) (wanted : Option ArgKind) → IsLawful
 argument_lawful context wanted =
     let plain = either is_dotted (range_arg wanted) (text_arg context wanted) in
     either_lawful (is_open Curly) (set_arg context wanted) (either (is_open Square) (array_arg context wanted) plain)
-      (record { first = λ x. refl; second = square_no_curly context wanted })
-      (set_arg_lawful context wanted)
-      (either_lawful (is_open Square) (array_arg context wanted) plain
-        (record { first = λ x. refl; second = plain_no_open Square context wanted })
-        (array_arg_lawful context wanted)
-        (either_lawful is_dotted (range_arg wanted) (text_arg context wanted)
-          (record { first = λ x. refl; second = plain_text is_dotted false context wanted (λ bytes. refl) (λ value. refl) refl refl })
-          (range_arg_lawful wanted) (text_arg_lawful context wanted)))
+    (record { first = λ x. refl; second = square_no_curly context wanted })
+    (set_arg_lawful context wanted)
+    (either_lawful (is_open Square) (array_arg context wanted) plain
+    (record { first = λ x. refl; second = plain_no_open Square context wanted })
+    (array_arg_lawful context wanted)
+    (either_lawful is_dotted (range_arg wanted) (text_arg context wanted)
+    (record { first = λ x. refl; second = plain_text is_dotted false context wanted (λ bytes. refl) (λ value. refl) refl refl })
+    (range_arg_lawful wanted) (text_arg_lawful context wanted)))
 
 plain_no_close : (context : Context) (wanted : Option ArgKind) (z : (ℤ × IntText) ⊎ ArgText) → IsLed (is_close Round) false ((either is_dotted (range_arg wanted) (text_arg context wanted)).spell z)
 plain_no_close context wanted (inl p) = refl
@@ -206,8 +206,8 @@ constraint_item_lawful context kept =
     let supported = λ (bytes : List ℕ). refuse_if (is_none (constraint_of bytes)) Unsupported in
     let rest = λ (bytes : List ℕ). chain (arguments (behind_constraints context kept) (kind_named bytes)) (λ args. annotated (λ notes. stop Semicolon)) in
     behind_mark_lawful (tested_mark (is_key key.Constraint) (Plain (Key key.Constraint)) refusal) (chain (name supported) rest)
-      (tested_mark_lawful (is_key key.Constraint) (Plain (Key key.Constraint)) refusal (key_is_only key.Constraint))
-      (chain_lawful (name supported) rest (name_lawful supported) (λ bytes.
-        chain_lawful (arguments (behind_constraints context kept) (kind_named bytes)) (λ args. annotated (λ notes. stop Semicolon))
-          (arguments_lawful (behind_constraints context kept) (kind_named bytes))
-          (λ args. annotated_lawful (λ notes. stop Semicolon) (record { lawful = λ notes. stop_lawful Semicolon; no_more = λ notes c. refl; no_args = λ notes c. refl }))))
+    (tested_mark_lawful (is_key key.Constraint) (Plain (Key key.Constraint)) refusal (key_is_only key.Constraint))
+    (chain_lawful (name supported) rest (name_lawful supported) (λ bytes.
+    chain_lawful (arguments (behind_constraints context kept) (kind_named bytes)) (λ args. annotated (λ notes. stop Semicolon))
+    (arguments_lawful (behind_constraints context kept) (kind_named bytes))
+    (λ args. annotated_lawful (λ notes. stop Semicolon) (record { lawful = λ notes. stop_lawful Semicolon; no_more = λ notes c. refl; no_args = λ notes c. refl }))))

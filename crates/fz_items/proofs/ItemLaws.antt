@@ -133,8 +133,8 @@ defined_lawful g gl = behind_mark_lawful (stop Equals) (before_mark g (stop Semi
 pub parameter_lawful : {C : Type 0} (context : Context) (g : Production C) → IsLawful g → IsLawful (parameter context g)
 parameter_lawful context g gl =
     behind_mark_lawful (stop Colon) (chain (name (fresh context)) (λ bytes. annotated (λ notes. defined g))) (stop_lawful Colon)
-      (chain_lawful (name (fresh context)) (λ bytes. annotated (λ notes. defined g)) (name_lawful (fresh context))
-        (λ bytes. annotated_lawful (λ notes. defined g) (record { lawful = λ notes. defined_lawful g gl; no_more = λ notes c. refl; no_args = λ notes c. refl })))
+    (chain_lawful (name (fresh context)) (λ bytes. annotated (λ notes. defined g)) (name_lawful (fresh context))
+    (λ bytes. annotated_lawful (λ notes. defined g) (record { lawful = λ notes. defined_lawful g gl; no_more = λ notes c. refl; no_args = λ notes c. refl })))
 
 pub int_item_lawful : (context : Context) → IsLawful (int_item context)
 int_item_lawful context = behind_mark_lawful (keyword key.Int) (parameter context (integer no_test)) (keyword_lawful key.Int) (parameter_lawful context (integer no_test) (integer_lawful no_test))
@@ -147,16 +147,16 @@ set_item_lawful context =
     let set = set_literal (λ kept value. one_more context (length kept)) in
     let of_int = behind_mark (keyword key.Int) (parameter context set) in
     behind_mark_lawful (keyword key.Set) (behind_mark (keyword key.Of) of_int) (keyword_lawful key.Set)
-      (behind_mark_lawful (keyword key.Of) of_int (keyword_lawful key.Of)
-        (behind_mark_lawful (keyword key.Int) (parameter context set) (keyword_lawful key.Int)
-          (parameter_lawful context set (set_literal_lawful (λ kept value. one_more context (length kept))))))
+    (behind_mark_lawful (keyword key.Of) of_int (keyword_lawful key.Of)
+    (behind_mark_lawful (keyword key.Int) (parameter context set) (keyword_lawful key.Int)
+    (parameter_lawful context set (set_literal_lawful (λ kept value. one_more context (length kept))))))
 
 variable_end_lawful : (context : Context) (type : TypeWords) → IsLawful (variable_end context type)
 variable_end_lawful context type =
     either_lawful (is_stop Equals) (defined (basic (definition_test context type))) (tested_mark (is_stop Semicolon) (Plain (Stop Semicolon)) (refuse_if (is_int_type type) Unbounded))
-      (record { first = λ x. refl; second = λ y. refl })
-      (defined_lawful (basic (definition_test context type)) (basic_lawful (definition_test context type)))
-      (tested_mark_lawful (is_stop Semicolon) (Plain (Stop Semicolon)) (refuse_if (is_int_type type) Unbounded) (stop_is_only Semicolon))
+    (record { first = λ x. refl; second = λ y. refl })
+    (defined_lawful (basic (definition_test context type)) (basic_lawful (definition_test context type)))
+    (tested_mark_lawful (is_stop Semicolon) (Plain (Stop Semicolon)) (refuse_if (is_int_type type) Unbounded) (stop_is_only Semicolon))
 
 no_second : (context : Context) (type : TypeWords) (z : BasicText ⊎ Unit {0}) → IsLed (is_stop DoubleColon) false ((variable_end context type).spell z)
 no_second context type (inl x) = refl
@@ -170,11 +170,11 @@ pub variable_item_lawful : (context : Context) → IsLawful (variable_item conte
 variable_item_lawful context =
     let names = λ (type : TypeWords). behind_mark (stop Colon) (chain (name (fresh_variable context)) (λ bytes. annotated (λ notes. variable_end context type))) in
     behind_mark_lawful (keyword key.Var) (chain (var_type (domain_test context)) names) (keyword_lawful key.Var)
-      (chain_lawful (var_type (domain_test context)) names (var_type_lawful (domain_test context)) (λ type.
-        behind_mark_lawful (stop Colon) (chain (name (fresh_variable context)) (λ bytes. annotated (λ notes. variable_end context type))) (stop_lawful Colon)
-          (chain_lawful (name (fresh_variable context)) (λ bytes. annotated (λ notes. variable_end context type)) (name_lawful (fresh_variable context))
-            (λ bytes. annotated_lawful (λ notes. variable_end context type) (record {
-              lawful = λ notes. variable_end_lawful context type;
-              no_more = λ notes c. no_second context type c;
-              no_args = λ notes c. no_args context type c;
-            })))))
+    (chain_lawful (var_type (domain_test context)) names (var_type_lawful (domain_test context)) (λ type.
+    behind_mark_lawful (stop Colon) (chain (name (fresh_variable context)) (λ bytes. annotated (λ notes. variable_end context type))) (stop_lawful Colon)
+    (chain_lawful (name (fresh_variable context)) (λ bytes. annotated (λ notes. variable_end context type)) (name_lawful (fresh_variable context))
+    (λ bytes. annotated_lawful (λ notes. variable_end context type) (record {
+      lawful = λ notes. variable_end_lawful context type;
+      no_more = λ notes c. no_second context type c;
+      no_args = λ notes c. no_args context type c;
+    })))))

@@ -49,36 +49,36 @@ integer_lawful test =
 pub range_lawful : (test : ℤ → Option Fault) → IsLawful (range test)
 range_lawful test =
     chain_lawful (integer test) (λ low. behind_mark (stop DoubleDot) (integer test)) (integer_lawful test)
-      (λ low. behind_mark_lawful (stop DoubleDot) (integer test) (stop_lawful DoubleDot) (integer_lawful test))
+    (λ low. behind_mark_lawful (stop DoubleDot) (integer test) (stop_lawful DoubleDot) (integer_lawful test))
 
 pub numbers_lawful : (test : List (ℤ × Bool) → ℤ → Option Fault) → IsLawful (numbers test)
 numbers_lawful test =
     behind_mark_lawful (opens Curly) (listed (record {
-        is_separator = is_stop Comma;
-        separator = Plain (Stop Comma);
-        is_close = is_close Curly;
-        item = λ kept. integer (test kept);
-        close = λ kept. closes Curly;
-      })) (opens_lawful Curly)
-      (listed_lawful (record {
-        is_separator = is_stop Comma;
-        separator = Plain (Stop Comma);
-        is_close = is_close Curly;
-        item = λ kept. integer (test kept);
-        close = λ kept. closes Curly;
-      }) (record {
-        separates = stop_is_only Comma;
-        item = λ kept. integer_lawful (test kept);
-        close = λ kept. closes_lawful Curly;
-        begins = λ kept x. refl;
-        closes = λ kept c. refl;
-        apart = λ kept c. refl;
-      }))
+      is_separator = is_stop Comma;
+      separator = Plain (Stop Comma);
+      is_close = is_close Curly;
+      item = λ kept. integer (test kept);
+      close = λ kept. closes Curly;
+    })) (opens_lawful Curly)
+    (listed_lawful (record {
+      is_separator = is_stop Comma;
+      separator = Plain (Stop Comma);
+      is_close = is_close Curly;
+      item = λ kept. integer (test kept);
+      close = λ kept. closes Curly;
+    }) (record {
+      separates = stop_is_only Comma;
+      item = λ kept. integer_lawful (test kept);
+      close = λ kept. closes_lawful Curly;
+      begins = λ kept x. refl;
+      closes = λ kept c. refl;
+      apart = λ kept c. refl;
+    }))
 
 pub set_literal_lawful : (test : List (ℤ × Bool) → ℤ → Option Fault) → IsLawful (set_literal test)
 set_literal_lawful test =
     either_lawful (is_open Curly) (numbers test) (range (test [])) (record { first = λ x. refl; second = λ y. refl })
-      (numbers_lawful test) (range_lawful (test []))
+    (numbers_lawful test) (range_lawful (test []))
 
 -- a set begins with neither `bool` nor `int`
 no_key : (k : Keyword) (test : List (ℤ × Bool) → ℤ → Option Fault) (z : List (ℤ × Bool) ⊎ ((ℤ × Bool) × (ℤ × Bool))) → IsLed (is_key k) false ((set_literal test).spell z)
@@ -92,8 +92,8 @@ no_bool test (inr y) = no_key key.Bool test y
 pub var_type_lawful : (test : List (ℤ × Bool) → ℤ → Option Fault) → IsLawful (var_type test)
 var_type_lawful test =
     either_lawful (is_key key.Bool) (keyword key.Bool) (either (is_key key.Int) (keyword key.Int) (set_literal test))
-      (record { first = λ x. refl; second = no_bool test })
-      (keyword_lawful key.Bool)
-      (either_lawful (is_key key.Int) (keyword key.Int) (set_literal test)
-        (record { first = λ x. refl; second = no_key key.Int test })
-        (keyword_lawful key.Int) (set_literal_lawful test))
+    (record { first = λ x. refl; second = no_bool test })
+    (keyword_lawful key.Bool)
+    (either_lawful (is_key key.Int) (keyword key.Int) (set_literal test)
+    (record { first = λ x. refl; second = no_key key.Int test })
+    (keyword_lawful key.Int) (set_literal_lawful test))

@@ -29,8 +29,8 @@ predicate_lawful : IsLawful predicate_item
 predicate_lawful =
     let body = behind_mark (opens Round) (before_mark balanced (stop Semicolon)) in
     behind_mark_lawful (keyword key.Predicate) (chain (name no_test) (λ bytes. body)) (keyword_lawful key.Predicate)
-      (chain_lawful (name no_test) (λ bytes. body) (name_lawful no_test)
-        (λ bytes. behind_mark_lawful (opens Round) (before_mark balanced (stop Semicolon)) (opens_lawful Round) (before_mark_lawful balanced (stop Semicolon) balanced_lawful (stop_lawful Semicolon))))
+    (chain_lawful (name no_test) (λ bytes. body) (name_lawful no_test)
+    (λ bytes. behind_mark_lawful (opens Round) (before_mark balanced (stop Semicolon)) (opens_lawful Round) (before_mark_lawful balanced (stop Semicolon) balanced_lawful (stop_lawful Semicolon))))
 
 -- ---- which item it is
 
@@ -71,10 +71,10 @@ no_predicate context (inr (inr (inr (inr v)))) = refl
 item_lawful : (context : Context) → IsLawful (item context)
 item_lawful context =
     either_lawful (is_key key.Predicate) predicate_item (from_int context) (record { first = λ x. refl; second = no_predicate context }) predicate_lawful
-      (either_lawful (is_key key.Int) (int_item context) (from_bool context) (record { first = λ x. refl; second = no_int context }) (int_item_lawful context)
-        (either_lawful (is_key key.Bool) (bool_item context) (from_set context) (record { first = λ x. refl; second = no_bool context }) (bool_item_lawful context)
-          (either_lawful (is_key key.Set) (set_item context) (from_array context) (record { first = λ x. refl; second = no_set context }) (set_item_lawful context)
-            (either_lawful (is_key key.Array) (array_item context) (variable_item context) (record { first = λ x. refl; second = λ y. refl }) (array_item_lawful context) (variable_item_lawful context)))))
+    (either_lawful (is_key key.Int) (int_item context) (from_bool context) (record { first = λ x. refl; second = no_int context }) (int_item_lawful context)
+    (either_lawful (is_key key.Bool) (bool_item context) (from_set context) (record { first = λ x. refl; second = no_bool context }) (bool_item_lawful context)
+    (either_lawful (is_key key.Set) (set_item context) (from_array context) (record { first = λ x. refl; second = no_set context }) (set_item_lawful context)
+    (either_lawful (is_key key.Array) (array_item context) (variable_item context) (record { first = λ x. refl; second = λ y. refl }) (array_item_lawful context) (variable_item_lawful context)))))
 
 begins : (context : Context) (z : ItemWords) → IsLed begins_item true ((item context).spell z)
 begins context (inl p) = refl
@@ -106,25 +106,25 @@ goal_lawful context =
     let sense = either (is_key key.Minimize) (keyword key.Minimize) (keyword key.Maximize) in
     let asked = chain sense (λ which. named) in
     before_mark_lawful (either (is_key key.Satisfy) (keyword key.Satisfy) asked) (stop Semicolon)
-      (either_lawful (is_key key.Satisfy) (keyword key.Satisfy) asked
-        (record { first = λ x. refl; second = no_satisfy context })
-        (keyword_lawful key.Satisfy)
-        (chain_lawful sense (λ which. named)
-          (either_lawful (is_key key.Minimize) (keyword key.Minimize) (keyword key.Maximize) (record { first = λ x. refl; second = λ y. refl }) (keyword_lawful key.Minimize) (keyword_lawful key.Maximize))
-          (λ which. name_lawful (λ bytes. known (meant_by context.entries bytes) goal_test))))
-      (stop_lawful Semicolon)
+    (either_lawful (is_key key.Satisfy) (keyword key.Satisfy) asked
+    (record { first = λ x. refl; second = no_satisfy context })
+    (keyword_lawful key.Satisfy)
+    (chain_lawful sense (λ which. named)
+    (either_lawful (is_key key.Minimize) (keyword key.Minimize) (keyword key.Maximize) (record { first = λ x. refl; second = λ y. refl }) (keyword_lawful key.Minimize) (keyword_lawful key.Maximize))
+    (λ which. name_lawful (λ bytes. known (meant_by context.entries bytes) goal_test))))
+    (stop_lawful Semicolon)
 
 solve_lawful : (context : Context) → IsLawful (solve_item context)
 solve_lawful context =
     behind_mark_lawful (keyword key.Solve) (annotated (λ notes. goal context)) (keyword_lawful key.Solve)
-      (annotated_lawful (λ notes. goal context) (record { lawful = λ notes. goal_lawful context; no_more = λ notes c. goal_no_stop context c; no_args = λ notes c. goal_no_open context c }))
+    (annotated_lawful (λ notes. goal context) (record { lawful = λ notes. goal_lawful context; no_more = λ notes c. goal_no_stop context c; no_args = λ notes c. goal_no_open context c }))
 
 -- ---- the model
 
 rest_lawful : (context : Context) → IsLawful (rest_of context)
 rest_lawful context =
     many_lawful (record { goes_on = is_key key.Constraint; item = λ kept. constraint_item context kept; close = λ kept. solve_item context })
-      (record { item = constraint_item_lawful context; close = λ kept. solve_lawful context; begins = λ kept x. refl; ends = λ kept c. refl })
+    (record { item = constraint_item_lawful context; close = λ kept. solve_lawful context; begins = λ kept x. refl; ends = λ kept c. refl })
 
 rest_no_item : (context : Context) (z : Rest) → IsLed begins_item false ((rest_of context).spell z)
 rest_no_item context ([], c) = refl
@@ -133,4 +133,4 @@ rest_no_item context (x ∷ xs, c) = refl
 pub model_lawful : IsLawful model
 model_lawful =
     many_lawful (record { goes_on = begins_item; item = λ kept. item (context_of kept); close = λ kept. rest_of (context_of kept) })
-      (record { item = λ kept. item_lawful (context_of kept); close = λ kept. rest_lawful (context_of kept); begins = λ kept x. begins (context_of kept) x; ends = λ kept c. rest_no_item (context_of kept) c })
+    (record { item = λ kept. item_lawful (context_of kept); close = λ kept. rest_lawful (context_of kept); begins = λ kept x. begins (context_of kept) x; ends = λ kept c. rest_no_item (context_of kept) c })

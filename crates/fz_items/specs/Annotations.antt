@@ -38,8 +38,8 @@ Close C = List Annotation → Production C
 abbrev pub link_parts : {C : Type 0} → Close C → List Annotation → Production (LinkParts C)
 link_parts close kept =
     chain (name (λ bytes. None)) (λ bytes. either (is_open Round)
-      (chain (behind_mark (opens Round) balanced) (λ args. tail (close (kept ++ record { name = bytes; args = Some args } ∷ []))))
-      (tail (close (kept ++ record { name = bytes; args = None } ∷ []))))
+    (chain (behind_mark (opens Round) balanced) (λ args. tail (close (kept ++ record { name = bytes; args = Some args } ∷ []))))
+    (tail (close (kept ++ record { name = bytes; args = None } ∷ []))))
 
 abbrev pub with_tail : {C : Type 0} → Annotation → Tail C → Annotation ⊎ (Annotation × C)
 with_tail a (inl more) = inl a

@@ -69,12 +69,12 @@ variable_element context type kept text = or_else (known (meaning context text) 
 -- the ranges of `output_array`: '[' range (',' range)* ']' ')'
 abbrev pub output_ranges : Production (List (IntText × IntText))
 output_ranges = before_mark (behind_mark (opens Square) (listed (record {
-    is_separator = is_stop Comma;
-    separator = Plain (Stop Comma);
-    is_close = is_close Square;
-    item = λ kept. range no_test;
-    close = λ kept. closes Square;
-  }))) (closes Round)
+  is_separator = is_stop Comma;
+  separator = Plain (Stop Comma);
+  is_close = is_close Square;
+  item = λ kept. range no_test;
+  close = λ kept. closes Square;
+}))) (closes Round)
 
 abbrev pub product : List (IntText × IntText) → ℕ
 product [] = 1
@@ -109,22 +109,22 @@ is_bools (inr int) = false
 abbrev pub constants : Context → IntText → Production ((Unit {0} ⊎ Unit {0}) × (List ℕ × Annotated (List BasicText)))
 constants context size =
     chain (either (is_key key.Bool) (keyword key.Bool) (keyword key.Int)) (λ kind.
-      parameter context (array_literal (constant_element context (is_bools kind)) (size_test size)))
+    parameter context (array_literal (constant_element context (is_bools kind)) (size_test size)))
 
 -- '=' arraylit ';', where the annotations are tested at the end
 abbrev pub elements_end : Context → IntText → TypeWords → List Annotation → Production (List BasicText)
 elements_end context size type notes =
     behind_mark (stop Equals) (before_mark (array_literal (variable_element context type) (size_test size))
-      (tested_mark (is_stop Semicolon) (Plain (Stop Semicolon)) (notes_test size notes)))
+    (tested_mark (is_stop Semicolon) (Plain (Stop Semicolon)) (notes_test size notes)))
 
 -- 'var' vtype ':' NAME annotations '=' arraylit ';'
 abbrev pub variables : Context → IntText → Production (TypeWords × (List ℕ × Annotated (List BasicText)))
 variables context size =
     behind_mark (keyword key.Var) (chain (var_type (domain_test context)) (λ type.
-      behind_mark (stop Colon) (chain (name (fresh context)) (λ bytes. annotated (elements_end context size type)))))
+    behind_mark (stop Colon) (chain (name (fresh context)) (λ bytes. annotated (elements_end context size type)))))
 
 -- 'array' '[' '1' '..' INT ']' 'of', and the one or the other
 abbrev pub array_item : Context → Production ((Bool × IntText) × ((TypeWords × (List ℕ × Annotated (List BasicText))) ⊎ ((Unit {0} ⊎ Unit {0}) × (List ℕ × Annotated (List BasicText)))))
 array_item context =
     behind_mark (keyword key.Array) (chain array_size (λ size.
-      behind_mark (keyword key.Of) (either (is_key key.Var) (variables context size.1) (constants context size.1))))
+    behind_mark (keyword key.Of) (either (is_key key.Var) (variables context size.1) (constants context size.1))))

@@ -176,7 +176,7 @@ array_arg context wanted =
 abbrev pub range_arg : Option ArgKind → Production (ℤ × IntText)
 range_arg wanted =
     chain (leaf (record { value = dotted_of; token = λ value. Plain (Number value true); test = λ value. refuse_if (not (wants_set wanted)) Kind }))
-      (λ low. behind_mark (stop DoubleDot) (integer no_test))
+    (λ low. behind_mark (stop DoubleDot) (integer no_test))
 
 abbrev pub text_arg : Context → Option ArgKind → Production ArgText
 text_arg context wanted =
@@ -186,8 +186,8 @@ text_arg context wanted =
 abbrev pub argument : Context → Option ArgKind → Production ArgWords
 argument context wanted =
     either (is_open Curly) (set_arg context wanted)
-      (either (is_open Square) (array_arg context wanted)
-        (either is_dotted (range_arg wanted) (text_arg context wanted)))
+    (either (is_open Square) (array_arg context wanted)
+    (either is_dotted (range_arg wanted) (text_arg context wanted)))
 
 -- ---- all arguments of a constraint
 
@@ -216,7 +216,7 @@ all_equal (n ∷ ns) = list_all (λ m. m == n) ns
 abbrev pub close_test : Context → ConstraintKind → List ArgWords → Option Fault
 close_test context kind args =
     or_else (refuse_if (nat_lt (length args) (least_args kind)) Kind)
-      (refuse_if (list_any pairs_arrays (args_of kind) && not (all_equal (filter_map (array_length context) args))) Kind)
+    (refuse_if (list_any pairs_arrays (args_of kind) && not (all_equal (filter_map (array_length context) args))) Kind)
 
 -- '(' (expr (',' expr)*)? ')'
 abbrev pub arguments : Context → ConstraintKind → Production (List ArgWords)
@@ -245,5 +245,5 @@ kind_named bytes = unwrap_or (constraint_of bytes) of.IntLe
 abbrev pub constraint_item : Context → List ConstraintWords → Production ConstraintWords
 constraint_item context kept =
     behind_mark (tested_mark (is_key key.Constraint) (Plain (Key key.Constraint)) (refuse_if (nat_le max_constraints (length kept)) Limit))
-      (chain (name (λ bytes. refuse_if (is_none (constraint_of bytes)) Unsupported)) (λ bytes.
-        chain (arguments (behind_constraints context kept) (kind_named bytes)) (λ args. annotated (λ notes. stop Semicolon))))
+    (chain (name (λ bytes. refuse_if (is_none (constraint_of bytes)) Unsupported)) (λ bytes.
+    chain (arguments (behind_constraints context kept) (kind_named bytes)) (λ args. annotated (λ notes. stop Semicolon))))

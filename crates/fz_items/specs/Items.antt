@@ -86,7 +86,7 @@ bool_item context = behind_mark (keyword key.Bool) (parameter context truth)
 abbrev pub set_item : Context → Production (List ℕ × Annotated SetWords)
 set_item context =
     behind_mark (keyword key.Set) (behind_mark (keyword key.Of) (behind_mark (keyword key.Int)
-      (parameter context (set_literal (λ kept value. one_more context (length kept))))))
+    (parameter context (set_literal (λ kept value. one_more context (length kept))))))
 
 -- ---- variables
 
@@ -111,11 +111,11 @@ definition_test context type text =
 abbrev pub variable_end : Context → TypeWords → Production (BasicText ⊎ Unit {0})
 variable_end context type =
     either (is_stop Equals) (defined (basic (definition_test context type)))
-      (tested_mark (is_stop Semicolon) (Plain (Stop Semicolon)) (refuse_if (is_int_type type) Unbounded))
+    (tested_mark (is_stop Semicolon) (Plain (Stop Semicolon)) (refuse_if (is_int_type type) Unbounded))
 
 -- 'var' vtype ':' NAME annotations ('=' basic)? ';'
 abbrev pub variable_item : Context → Production (TypeWords × (List ℕ × Annotated (BasicText ⊎ Unit {0})))
 variable_item context =
     behind_mark (keyword key.Var) (chain (var_type (domain_test context)) (λ type.
-      behind_mark (stop Colon) (chain (name (fresh_variable context)) (λ bytes.
-        annotated (λ notes. variable_end context type)))))
+    behind_mark (stop Colon) (chain (name (fresh_variable context)) (λ bytes.
+    annotated (λ notes. variable_end context type)))))

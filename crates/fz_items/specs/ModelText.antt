@@ -36,10 +36,10 @@ ItemWords = (List ℕ × Balanced) ⊎ ((List ℕ × Annotated IntText) ⊎ ((Li
 abbrev pub item : Context → Production ItemWords
 item context =
     either (is_key key.Predicate) predicate_item
-      (either (is_key key.Int) (int_item context)
-        (either (is_key key.Bool) (bool_item context)
-          (either (is_key key.Set) (set_item context)
-            (either (is_key key.Array) (array_item context) (variable_item context)))))
+    (either (is_key key.Int) (int_item context)
+    (either (is_key key.Bool) (bool_item context)
+    (either (is_key key.Set) (set_item context)
+    (either (is_key key.Array) (array_item context) (variable_item context)))))
 
 abbrev pub begins_item : Word → Bool
 begins_item word =
@@ -120,8 +120,8 @@ GoalWords = Unit {0} ⊎ ((Unit {0} ⊎ Unit {0}) × List ℕ)
 abbrev pub goal : Context → Production GoalWords
 goal context =
     before_mark (either (is_key key.Satisfy) (keyword key.Satisfy)
-      (chain (either (is_key key.Minimize) (keyword key.Minimize) (keyword key.Maximize)) (λ which. name (λ bytes. known (meant_by context.entries bytes) goal_test))))
-      (stop Semicolon)
+    (chain (either (is_key key.Minimize) (keyword key.Minimize) (keyword key.Maximize)) (λ which. name (λ bytes. known (meant_by context.entries bytes) goal_test))))
+    (stop Semicolon)
 
 -- 'solve' annotations, and the goal
 abbrev pub solve_item : Context → Production (Annotated GoalWords)

@@ -184,15 +184,43 @@ impl ConstraintKind {
         ensures { result.now ≡ spec.args_of self }
     {
         match self {
-            ConstraintKind::IntLinLe | ConstraintKind::IntLinEq | ConstraintKind::IntLinNe => &[ArgKind::Coefficients, ArgKind::Ints, ArgKind::Const],
-            ConstraintKind::IntLinLeReif | ConstraintKind::IntLinEqReif | ConstraintKind::IntLinNeReif => &[ArgKind::Coefficients, ArgKind::Ints, ArgKind::Const, ArgKind::Bool],
-            ConstraintKind::IntLe | ConstraintKind::IntLt | ConstraintKind::IntEq | ConstraintKind::IntNe => &[ArgKind::Int, ArgKind::Int],
-            ConstraintKind::IntLeReif | ConstraintKind::IntLtReif | ConstraintKind::IntEqReif | ConstraintKind::IntNeReif => &[ArgKind::Int, ArgKind::Int, ArgKind::Bool],
+            ConstraintKind::IntLinLe | ConstraintKind::IntLinEq | ConstraintKind::IntLinNe => &[
+                ArgKind::Coefficients,
+                ArgKind::Ints,
+                ArgKind::Const,
+            ],
+            ConstraintKind::IntLinLeReif
+            | ConstraintKind::IntLinEqReif
+            | ConstraintKind::IntLinNeReif => &[
+                ArgKind::Coefficients,
+                ArgKind::Ints,
+                ArgKind::Const,
+                ArgKind::Bool,
+            ],
+            ConstraintKind::IntLe
+            | ConstraintKind::IntLt
+            | ConstraintKind::IntEq
+            | ConstraintKind::IntNe => &[ArgKind::Int, ArgKind::Int],
+            ConstraintKind::IntLeReif
+            | ConstraintKind::IntLtReif
+            | ConstraintKind::IntEqReif
+            | ConstraintKind::IntNeReif => &[ArgKind::Int, ArgKind::Int, ArgKind::Bool],
             ConstraintKind::IntPlus => &[ArgKind::Int, ArgKind::Int, ArgKind::Int],
             ConstraintKind::Bool2Int => &[ArgKind::Bool, ArgKind::Int],
-            ConstraintKind::BoolEq | ConstraintKind::BoolNot | ConstraintKind::BoolLe | ConstraintKind::BoolLt => &[ArgKind::Bool, ArgKind::Bool],
-            ConstraintKind::BoolXor | ConstraintKind::BoolEqReif | ConstraintKind::BoolLeReif | ConstraintKind::BoolLtReif | ConstraintKind::BoolAnd | ConstraintKind::BoolOr => &[ArgKind::Bool, ArgKind::Bool, ArgKind::Bool],
-            ConstraintKind::ArrayBoolAnd | ConstraintKind::ArrayBoolOr => &[ArgKind::Bools, ArgKind::Bool],
+            ConstraintKind::BoolEq
+            | ConstraintKind::BoolNot
+            | ConstraintKind::BoolLe
+            | ConstraintKind::BoolLt => &[ArgKind::Bool, ArgKind::Bool],
+            ConstraintKind::BoolXor
+            | ConstraintKind::BoolEqReif
+            | ConstraintKind::BoolLeReif
+            | ConstraintKind::BoolLtReif
+            | ConstraintKind::BoolAnd
+            | ConstraintKind::BoolOr => &[ArgKind::Bool, ArgKind::Bool, ArgKind::Bool],
+            ConstraintKind::ArrayBoolAnd | ConstraintKind::ArrayBoolOr => &[
+                ArgKind::Bools,
+                ArgKind::Bool,
+            ],
             ConstraintKind::BoolClause => &[ArgKind::Bools, ArgKind::Bools],
             ConstraintKind::BoolClauseReif => &[ArgKind::Bools, ArgKind::Bools, ArgKind::Bool],
             ConstraintKind::SetIn => &[ArgKind::Int, ArgKind::Set],
@@ -201,8 +229,15 @@ impl ConstraintKind {
             ConstraintKind::ArrayVarIntElement => &[ArgKind::Int, ArgKind::Ints, ArgKind::Int],
             ConstraintKind::ArrayBoolElement => &[ArgKind::Int, ArgKind::BoolConsts, ArgKind::Bool],
             ConstraintKind::ArrayVarBoolElement => &[ArgKind::Int, ArgKind::Bools, ArgKind::Bool],
-            ConstraintKind::AllDifferentInt | ConstraintKind::FznAllDifferentInt => &[ArgKind::Ints],
-            ConstraintKind::Cumulative | ConstraintKind::FznCumulative => &[ArgKind::Ints, ArgKind::Amounts, ArgKind::Amounts, ArgKind::Amount],
+            ConstraintKind::AllDifferentInt | ConstraintKind::FznAllDifferentInt => &[
+                ArgKind::Ints,
+            ],
+            ConstraintKind::Cumulative | ConstraintKind::FznCumulative => &[
+                ArgKind::Ints,
+                ArgKind::Amounts,
+                ArgKind::Amounts,
+                ArgKind::Amount,
+            ],
         }
     }
 

@@ -2,7 +2,11 @@
 #![tactic(auto)]
 
 mod kinds;
+mod laws;
 mod model;
+#[cfg(test)]
+mod tests;
 
 pub use kinds::{ArgKind, ConstraintKind};
+pub use laws::exactness;
 pub use model::{Basic, Constraint, Expr, Item, Model, ModelGoal, SetText, VarType};

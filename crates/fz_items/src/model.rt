@@ -15,11 +15,20 @@ pub struct Model {
 #[derive(Debug, Drop)]
 pub enum Item {
     /// An integer parameter.
-    Int { name: Name, value: i64 },
+    Int {
+        name: Name,
+        value: i64,
+    },
     /// A Boolean parameter.
-    Bool { name: Name, value: bool },
+    Bool {
+        name: Name,
+        value: bool,
+    },
     /// A set parameter.
-    Set { name: Name, set: SetText },
+    Set {
+        name: Name,
+        set: SetText,
+    },
     /// An array of constants, Booleans or integers.
     Consts {
         name: Name,
