@@ -1,10 +1,9 @@
 -- Annotations with a lawful close are lawful.
-use Rattle.std.proofs.Common.{◌≡◌, ℕ, Bool, true, false, ◌⊎◌, inl, inr, List, [], ◌∷◌, ◌++◌, Option, Some, None, refl, sym, ap, ◌∙◌}
-use Rattle.dp_grammar.specs.Brackets.{Plain}
+use Rattle.std.proofs.Common.{◌≡◌, ℕ, true, false, ◌⊎◌, inl, inr, List, [], ◌∷◌, ◌++◌, Option, Some, None, refl}
 use Rattle.dp_grammar.specs.Chain.{chain, behind_mark}
 use Rattle.dp_grammar.specs.Choice.{IsLed, either}
 use Rattle.dp_grammar.specs.Grammar.{IsLawful}
-use Rattle.dp_grammar.specs.Many.{links, IsLink}
+use Rattle.dp_grammar.specs.Many.{links}
 use Rattle.dp_grammar.proofs.Bracketings.{inside_lawful}
 use Rattle.dp_grammar.proofs.Chains.{chain_lawful, behind_mark_lawful, shaped_lawful}
 use Rattle.dp_grammar.proofs.Choices.{either_lawful}

@@ -1,7 +1,6 @@
 -- Arrays are lawful, behind any items.
-use Rattle.std.proofs.Common.{◌≡◌, ℕ, Bool, true, false, not, ◌&&◌, cond, ◌⊎◌, inl, inr, List, [], ◌∷◌, Option, Some, None, ℤ, pos, negsuc, ltb, refl, sym, ap, ◌∙◌, arith}
+use Rattle.std.proofs.Common.{◌≡◌, ℕ, Bool, true, false, not, ◌&&◌, cond, ◌⊎◌, inl, inr, List, Some, None, ℤ, pos, negsuc, ltb, refl, sym, ap, ◌∙◌, arith}
 use Rattle.std.proofs.lemmas.Bool.{ltb-false}
-use Rattle.fz_token.specs.declared.Keyword.{Keyword}
 use Rattle.fz_token.specs.declared.Keyword.TheVariants as key
 use Rattle.dp_grammar.specs.Brackets.{Plain, Opens, Closes}
 use Rattle.dp_grammar.specs.Chain.{chain, behind_mark, before_mark}
@@ -16,7 +15,7 @@ use Rattle.fz_items.specs.Arrays.{is_one, one_word, one, array_size, size_test, 
 use Rattle.fz_items.specs.Context.{Context, BasicText, fresh}
 use Rattle.fz_items.specs.Items.{IntText, TypeWords, no_test, array_literal, parameter, domain_test}
 use Rattle.fz_items.specs.Literals.{name, integer, var_type}
-use Rattle.fz_items.specs.Marks.{Fault, is_key, is_stop, keyword, stop, opens, closes}
+use Rattle.fz_items.specs.Marks.{is_key, is_stop, keyword, stop, opens, closes}
 use Rattle.fz_items.specs.Words.{Square, Semicolon, Colon, Equals, DoubleDot, Word, Named, Key, Number, Float, Quoted, Stop}
 use Rattle.fz_items.proofs.AnnotationLaws.{annotated_lawful}
 use Rattle.fz_items.proofs.ItemLaws.{array_literal_lawful, parameter_lawful}

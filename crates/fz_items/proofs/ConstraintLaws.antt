@@ -1,5 +1,5 @@
 -- Constraints are lawful, behind any items and constraints.
-use Rattle.std.proofs.Common.{◌≡◌, ℕ, Bool, true, false, not, ◌⊎◌, inl, inr, List, [], ◌∷◌, length, Option, Some, None, ℤ, pos, refl, sym, ap, ◌∙◌}
+use Rattle.std.proofs.Common.{◌≡◌, ℕ, Bool, true, false, not, ◌⊎◌, inl, inr, List, length, Option, Some, ℤ, pos, refl, sym, ap, ◌∙◌}
 use Rattle.std.specs.Prelude.{slice_get, is_none, nat_le}
 use Rattle.fz_token.specs.declared.Keyword.{Keyword}
 use Rattle.fz_token.specs.declared.Keyword.TheVariants as key

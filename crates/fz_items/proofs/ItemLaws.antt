@@ -1,10 +1,10 @@
 -- Parameters and variables are lawful, behind any items.
-use Rattle.std.proofs.Common.{◌≡◌, ℕ, Bool, true, false, cond, ◌⊎◌, inl, inr, List, [], ◌∷◌, length, Option, Some, None, ℤ, pos, refl, sym, ap, ◌∙◌}
+use Rattle.std.proofs.Common.{◌≡◌, Bool, true, false, cond, ◌⊎◌, inl, inr, List, length, Option, Some, refl, sym, ap, ◌∙◌}
 use Rattle.fz_token.specs.declared.Keyword.{Keyword}
 use Rattle.fz_token.specs.declared.Keyword.TheVariants as key
 use Rattle.dp_grammar.specs.Brackets.{Plain, Opens, Closes}
 use Rattle.dp_grammar.specs.Chain.{chain, behind_mark, before_mark}
-use Rattle.dp_grammar.specs.Choice.{IsLed, either}
+use Rattle.dp_grammar.specs.Choice.{IsLed}
 use Rattle.dp_grammar.specs.Grammar.{IsLawful}
 use Rattle.dp_grammar.specs.Leaf.{tested_mark}
 use Rattle.dp_grammar.specs.Listed.{Listing, listed}

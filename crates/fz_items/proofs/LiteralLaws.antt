@@ -1,5 +1,5 @@
 -- Names, integers, sets and types of variables are lawful, whatever their tests.
-use Rattle.std.proofs.Common.{◌≡◌, ℕ, Bool, true, false, ◌⊎◌, inl, inr, List, [], ◌∷◌, Option, Some, None, ℤ, pos, refl, sym, ap, ◌∙◌}
+use Rattle.std.proofs.Common.{◌≡◌, ℕ, Bool, false, ◌⊎◌, inl, inr, List, [], Option, Some, ℤ, pos, refl, sym, ap}
 use Rattle.fz_token.specs.declared.Keyword.{Keyword}
 use Rattle.fz_token.specs.declared.Keyword.TheVariants as key
 use Rattle.dp_grammar.specs.Brackets.{Plain, Opens, Closes}

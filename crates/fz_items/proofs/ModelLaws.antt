@@ -1,23 +1,21 @@
 -- The whole grammar is lawful.
-use Rattle.std.proofs.Common.{◌≡◌, ℕ, Bool, true, false, ◌⊎◌, inl, inr, List, [], ◌∷◌, Option, Some, None, refl}
-use Rattle.fz_token.specs.declared.Keyword.{Keyword}
+use Rattle.std.proofs.Common.{ℕ, Bool, true, false, ◌⊎◌, inl, inr, List, [], ◌∷◌, refl}
 use Rattle.fz_token.specs.declared.Keyword.TheVariants as key
 use Rattle.dp_grammar.specs.Chain.{chain, behind_mark, before_mark}
 use Rattle.dp_grammar.specs.Choice.{IsLed, either}
 use Rattle.dp_grammar.specs.Grammar.{IsLawful}
-use Rattle.dp_grammar.specs.Many.{Repeat}
 use Rattle.dp_grammar.proofs.Chains.{chain_lawful, behind_mark_lawful, before_mark_lawful}
 use Rattle.dp_grammar.proofs.Choices.{either_lawful}
 use Rattle.dp_grammar.proofs.Manys.{many_lawful}
 use Rattle.fz_items.specs.Annotations.{Annotated, balanced, annotated}
 use Rattle.fz_items.specs.Arrays.{array_item}
-use Rattle.fz_items.specs.Constraints.{ConstraintWords, constraint_item}
+use Rattle.fz_items.specs.Constraints.{constraint_item}
 use Rattle.fz_items.specs.Context.{Context, known, goal_test, meant_by}
 use Rattle.fz_items.specs.Items.{IntText, SetWords, no_test, int_item, bool_item, set_item, variable_item}
 use Rattle.fz_items.specs.Literals.{name}
-use Rattle.fz_items.specs.Marks.{Fault, Production, is_key, is_stop, is_open, keyword, stop, opens}
-use Rattle.fz_items.specs.ModelText.{predicate_item, ArrayWords, VariableWords, ItemWords, item, begins_item, context_of, GoalWords, goal, solve_item, Rest, rest_of, ModelWords, model}
-use Rattle.fz_items.specs.Words.{Round, DoubleColon, Semicolon, Word}
+use Rattle.fz_items.specs.Marks.{Production, is_key, is_stop, is_open, keyword, stop, opens}
+use Rattle.fz_items.specs.ModelText.{predicate_item, ArrayWords, VariableWords, ItemWords, item, begins_item, context_of, GoalWords, goal, solve_item, Rest, rest_of, model}
+use Rattle.fz_items.specs.Words.{Round, DoubleColon, Semicolon}
 use Rattle.fz_items.proofs.AnnotationLaws.{balanced_lawful, annotated_lawful}
 use Rattle.fz_items.proofs.ArrayLaws.{array_item_lawful}
 use Rattle.fz_items.proofs.ConstraintLaws.{constraint_item_lawful}

@@ -1,10 +1,10 @@
 -- Arrays of constants and of variables, behind the items that stand before them.
-use Rattle.std.specs.Prelude.{ℕ, ◌*◌, ◌+◌, ◌==◌, Bool, true, false, not, ◌&&◌, ◌||◌, ◌⊎◌, if◌then◌else◌, List, [], ◌∷◌, ◌++◌, length, Option, Some, None, Result, Ok, Err, find, bytes_eq, codes, ℤ, pos, ◌+ℤ◌, ◌-ℤ◌}
+use Rattle.std.specs.Prelude.{ℕ, ◌*◌, ◌==◌, Bool, true, false, not, ◌&&◌, ◌⊎◌, if◌then◌else◌, List, [], ◌∷◌, length, Option, Some, None, Result, Ok, Err, find, bytes_eq, codes, ℤ, pos, ◌+ℤ◌, ◌-ℤ◌}
 use Rattle.std.proofs.Common.{inl, inr}
 use Rattle.std.specs.List.{list_any}
 use Rattle.std.specs.Int.Signed.{lt_z}
 use Rattle.fz_token.specs.declared.Keyword.TheVariants as key
-use Rattle.dp_grammar.specs.Brackets.{Plain, Closes, spell_inside}
+use Rattle.dp_grammar.specs.Brackets.{Plain, spell_inside}
 use Rattle.dp_grammar.specs.Chain.{chain, behind_mark, before_mark}
 use Rattle.dp_grammar.specs.Choice.{either}
 use Rattle.dp_grammar.specs.Grammar.{Cause}
@@ -13,10 +13,10 @@ use Rattle.dp_grammar.specs.Listed.{listed}
 use Rattle.dp_grammar.specs.Whole.{whole}
 use Rattle.fz_items.specs.Annotations.{Balanced, Annotation, Annotated, annotated}
 use Rattle.fz_items.specs.Context.{Context, BasicText, Meant, meaning, known, or_else, refuse_if, one_more, fresh, int_test, bool_test, const_test, bool_const_test}
-use Rattle.fz_items.specs.Items.{IntText, SetWords, TypeWords, no_test, array_literal, defined, parameter, domain_test, is_bool_type}
+use Rattle.fz_items.specs.Items.{IntText, SetWords, TypeWords, no_test, array_literal, parameter, domain_test}
 use Rattle.fz_items.specs.Literals.{name, integer, range, var_type}
 use Rattle.fz_items.specs.Marks.{Fault, Kind, Production, is_key, is_stop, is_close, keyword, stop, opens, closes}
-use Rattle.fz_items.specs.Words.{Bracket, Round, Square, Comma, Semicolon, Colon, DoubleDot, Equals, Word, Number, Stop, bracketing}
+use Rattle.fz_items.specs.Words.{Round, Square, Comma, Semicolon, Colon, DoubleDot, Equals, Word, Number, Stop, bracketing}
 
 -- ---- the number of elements
 

@@ -1,21 +1,21 @@
 -- Constraints, with the tests of their names and arguments.
-use Rattle.std.specs.Prelude.{ℕ, ◌+◌, ◌==◌, Bool, true, false, not, ◌||◌, ◌&&◌, nat_lt, nat_le, ◌⊎◌, if◌then◌else◌, List, [], ◌∷◌, ◌++◌, length, map, sum, Option, Some, None, unwrap_or, is_none, ℤ, pos, nat_abs, slice_get}
+use Rattle.std.specs.Prelude.{ℕ, ◌+◌, ◌==◌, Bool, true, false, not, ◌||◌, ◌&&◌, nat_lt, nat_le, ◌⊎◌, List, [], ◌∷◌, length, map, sum, Option, Some, None, unwrap_or, is_none, ℤ, pos, nat_abs, slice_get}
 use Rattle.std.proofs.Common.{inl, inr}
 use Rattle.std.specs.List.{list_any, list_all, filter_map}
 use Rattle.std.specs.Int.Signed.{lt_z}
 use Rattle.fz_token.specs.declared.Keyword.TheVariants as key
 use Rattle.dp_grammar.specs.Brackets.{Plain, Opens, Closes}
-use Rattle.dp_grammar.specs.Chain.{chain, behind_mark, before_mark}
+use Rattle.dp_grammar.specs.Chain.{chain, behind_mark}
 use Rattle.dp_grammar.specs.Choice.{either}
 use Rattle.dp_grammar.specs.Leaf.{leaf, tested_mark}
 use Rattle.dp_grammar.specs.Listed.{listed}
 use Rattle.fz_items.specs.Annotations.{Annotated, annotated}
-use Rattle.fz_items.specs.Context.{Context, BasicText, Truth, Whole, Name, Meant, IntConst, BoolConst, SetConst, IntVar, BoolVar, IntArray, BoolArray, meaning, known, or_else, refuse_if, one_more, int_test, bool_test, const_test, bool_const_test, beyond_small, small, max_constraints}
+use Rattle.fz_items.specs.Context.{Context, BasicText, Truth, Whole, Name, Meant, IntConst, SetConst, IntVar, IntArray, BoolArray, meaning, known, or_else, refuse_if, one_more, int_test, bool_test, const_test, bool_const_test, beyond_small, small, max_constraints}
 use Rattle.fz_items.specs.Items.{IntText, no_test, basic}
 use Rattle.fz_items.specs.Literals.{name, integer}
-use Rattle.fz_items.specs.Marks.{Fault, Unsupported, Unknown, Kind, Limit, Production, is_key, is_stop, is_open, is_close, keyword, stop, opens, closes}
+use Rattle.fz_items.specs.Marks.{Fault, Unsupported, Kind, Limit, Production, is_key, is_stop, is_open, is_close, stop, opens, closes}
 use Rattle.fz_items.specs.Table.{constraint_of, args_of, least_args}
-use Rattle.fz_items.specs.Words.{Bracket, Round, Square, Curly, Comma, Semicolon, DoubleDot, Word, Named, Key, Number, Stop}
+use Rattle.fz_items.specs.Words.{Round, Square, Curly, Comma, Semicolon, DoubleDot, Word, Named, Key, Number, Stop}
 use Rattle.fz_items.specs.declared.kinds.ArgKind.{ArgKind}
 use Rattle.fz_items.specs.declared.kinds.ArgKind.TheVariants as arg
 use Rattle.fz_items.specs.declared.kinds.ConstraintKind.{ConstraintKind}

@@ -1,7 +1,7 @@
 -- What the items before a word declare, and the tests of names and literals that look at it.
-use Rattle.std.specs.Prelude.{ℕ, ◌+◌, ◌==◌, Bool, true, false, not, ◌||◌, nat_lt, nat_le, if◌then◌else◌, List, [], ◌∷◌, ◌++◌, length, find, bytes_eq, Option, Some, None, ℤ, nat_abs}
+use Rattle.std.specs.Prelude.{ℕ, ◌+◌, Bool, true, false, nat_lt, nat_le, List, find, bytes_eq, Option, Some, None, ℤ, nat_abs}
 use Rattle.std.specs.Option.{option_map_or}
-use Rattle.fz_items.specs.Marks.{Fault, Unsupported, Unbounded, Unknown, Declared, Kind, Limit}
+use Rattle.fz_items.specs.Marks.{Fault, Unsupported, Unknown, Declared, Kind, Limit}
 
 -- what a name stands for; an array by its elements, None for a variable
 pub data Meant : Type 0 where

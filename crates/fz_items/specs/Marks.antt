@@ -1,11 +1,11 @@
 -- Productions of one word that is spelled in one way.
-use Rattle.std.specs.Prelude.{ℕ, ◌==◌, Bool, true, false}
+use Rattle.std.specs.Prelude.{ℕ, ◌==◌, Bool, false}
 use Rattle.fz_token.specs.declared.Keyword.{Keyword}
 use Rattle.fz_token.specs.declared.Keyword.TheVariants as key
 use Rattle.dp_grammar.specs.Brackets.{Plain, Opens, Closes}
 use Rattle.dp_grammar.specs.Grammar.{Grammar}
 use Rattle.dp_grammar.specs.Leaf.{mark}
-use Rattle.fz_items.specs.Words.{Bracket, Point, Comma, Semicolon, Colon, DoubleColon, Equals, DoubleDot, Word, Named, Key, Number, Float, Quoted, Stop, bracket_code}
+use Rattle.fz_items.specs.Words.{Bracket, Point, Comma, Semicolon, Colon, DoubleColon, Equals, DoubleDot, Word, Key, Stop, bracket_code}
 
 -- The tests of a text, in the order in which they refuse one word.
 pub data Fault : Type 0 where

@@ -1,8 +1,8 @@
 -- A whole model: its items, its constraints and its goal, and what refuses a text's words first.
-use Rattle.std.specs.Prelude.{ℕ, ◌+◌, ◌==◌, Bool, true, false, not, ◌||◌, ◌&&◌, ◌⊎◌, if◌then◌else◌, List, [], ◌∷◌, ◌++◌, length, map, take, drop, ◌-◌, slice_get, Option, Some, None, Result, Ok, Err, ℤ}
+use Rattle.std.specs.Prelude.{ℕ, ◌+◌, Bool, true, false, ◌||◌, ◌&&◌, ◌⊎◌, if◌then◌else◌, List, [], ◌∷◌, ◌++◌, length, map, take, drop, ◌-◌, slice_get, Option, Some, None, Result, Ok, Err, ℤ}
 use Rattle.std.proofs.Common.{inl, inr}
 use Rattle.fz_token.specs.declared.Keyword.TheVariants as key
-use Rattle.dp_grammar.specs.Brackets.{Plain, Opens, Closes}
+use Rattle.dp_grammar.specs.Brackets.{Plain, Closes}
 use Rattle.dp_grammar.specs.Chain.{chain, behind_mark, before_mark}
 use Rattle.dp_grammar.specs.Choice.{either}
 use Rattle.dp_grammar.specs.Grammar.{Cause, Syntax, Test}
@@ -10,12 +10,12 @@ use Rattle.dp_grammar.specs.Many.{many}
 use Rattle.dp_grammar.specs.Whole.{whole}
 use Rattle.fz_items.specs.Annotations.{Balanced, balanced, Annotated, annotated}
 use Rattle.fz_items.specs.Arrays.{array_item}
-use Rattle.fz_items.specs.Constraints.{ConstraintWords, constraint_item, behind_constraints}
-use Rattle.fz_items.specs.Context.{Context, Entry, BasicText, Meant, IntConst, BoolConst, SetConst, IntVar, BoolVar, IntArray, BoolArray, meaning, known, goal_test, meant_by}
+use Rattle.fz_items.specs.Constraints.{ConstraintWords, constraint_item}
+use Rattle.fz_items.specs.Context.{Context, BasicText, Meant, IntConst, BoolConst, SetConst, IntVar, BoolVar, IntArray, BoolArray, meaning, known, goal_test, meant_by}
 use Rattle.fz_items.specs.Items.{IntText, SetWords, TypeWords, no_test, int_item, bool_item, set_item, variable_item, is_bool_type}
 use Rattle.fz_items.specs.Literals.{name}
-use Rattle.fz_items.specs.Marks.{Fault, Unsupported, Production, is_key, is_stop, keyword, stop, opens}
-use Rattle.fz_items.specs.Words.{Round, Square, Semicolon, Word, Key, Float}
+use Rattle.fz_items.specs.Marks.{Fault, Unsupported, Production, is_key, keyword, stop, opens}
+use Rattle.fz_items.specs.Words.{Round, Square, Semicolon, Word, Float}
 
 -- ---- items
 
