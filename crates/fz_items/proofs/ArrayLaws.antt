@@ -12,8 +12,8 @@ use Rattle.dp_grammar.proofs.Chains.{chain_lawful, behind_mark_lawful, before_ma
 use Rattle.dp_grammar.proofs.Choices.{either_lawful}
 use Rattle.fz_items.specs.Annotations.{Annotation, Annotated, annotated}
 use Rattle.fz_items.specs.Arrays.{is_one, one_word, one, array_size, size_test, constant_element, variable_element, notes_test, is_bools, constants, elements_end, variables, array_item}
-use Rattle.fz_items.specs.Context.{Context, BasicText, fresh}
-use Rattle.fz_items.specs.Items.{IntText, TypeWords, no_test, array_literal, parameter, domain_test}
+use Rattle.fz_items.specs.Context.{Context, BasicText, fresh, beyond_small, with_elements}
+use Rattle.fz_items.specs.Items.{IntText, TypeWords, no_test, array_literal, parameter, domain_test, type_elements}
 use Rattle.fz_items.specs.Literals.{name, integer, var_type}
 use Rattle.fz_items.specs.Marks.{is_key, is_stop, keyword, stop, opens, closes}
 use Rattle.fz_items.specs.Words.{Square, Semicolon, Colon, Equals, DoubleDot, Word, Named, Key, Number, Float, Quoted, Stop}
@@ -80,13 +80,13 @@ elements_end_lawful context size type notes =
 
 variables_lawful : (context : Context) (size : IntText) → IsLawful (variables context size)
 variables_lawful context size =
-    let names = λ (type : TypeWords). behind_mark (stop Colon) (chain (name (fresh context)) (λ bytes. annotated (elements_end context size type))) in
-    behind_mark_lawful (keyword key.Var) (chain (var_type (domain_test context)) names) (keyword_lawful key.Var)
-    (chain_lawful (var_type (domain_test context)) names (var_type_lawful (domain_test context)) (λ type.
-    behind_mark_lawful (stop Colon) (chain (name (fresh context)) (λ bytes. annotated (elements_end context size type))) (stop_lawful Colon)
-    (chain_lawful (name (fresh context)) (λ bytes. annotated (elements_end context size type)) (name_lawful (fresh context))
-    (λ bytes. annotated_lawful (elements_end context size type) (record {
-      lawful = elements_end_lawful context size type;
+    let names = λ (type : TypeWords). behind_mark (stop Colon) (chain (name (fresh context)) (λ bytes. annotated (elements_end (with_elements context (type_elements type)) size type))) in
+    behind_mark_lawful (keyword key.Var) (chain (var_type (domain_test context) beyond_small) names) (keyword_lawful key.Var)
+    (chain_lawful (var_type (domain_test context) beyond_small) names (var_type_lawful (domain_test context) beyond_small) (λ type.
+    behind_mark_lawful (stop Colon) (chain (name (fresh context)) (λ bytes. annotated (elements_end (with_elements context (type_elements type)) size type))) (stop_lawful Colon)
+    (chain_lawful (name (fresh context)) (λ bytes. annotated (elements_end (with_elements context (type_elements type)) size type)) (name_lawful (fresh context))
+    (λ bytes. annotated_lawful (elements_end (with_elements context (type_elements type)) size type) (record {
+      lawful = elements_end_lawful (with_elements context (type_elements type)) size type;
       no_more = λ notes c. refl;
       no_args = λ notes c. refl;
     })))))

@@ -13,7 +13,7 @@ use Rattle.dp_grammar.proofs.Chains.{chain_lawful, behind_mark_lawful, before_ma
 use Rattle.dp_grammar.proofs.Choices.{either_lawful}
 use Rattle.dp_grammar.proofs.Lists.{listed_lawful}
 use Rattle.fz_items.specs.Annotations.{annotated}
-use Rattle.fz_items.specs.Context.{Context, BasicText, Truth, Whole, Name, refuse_if, fresh, fresh_variable, one_more}
+use Rattle.fz_items.specs.Context.{beyond_small, Context, BasicText, Truth, Whole, Name, refuse_if, fresh, fresh_variable, one_more}
 use Rattle.fz_items.specs.Items.{TypeWords, no_test, basic_of, basic_word, basic, truth_of, truth, array_literal, defined, parameter, int_item, bool_item, set_item, domain_test, is_int_type, definition_test, variable_end, variable_item}
 use Rattle.fz_items.specs.Literals.{name, integer, set_literal, var_type}
 use Rattle.fz_items.specs.Marks.{Fault, Unbounded, Production, is_stop, is_open, is_close, keyword, stop, opens}
@@ -144,12 +144,12 @@ bool_item_lawful context = behind_mark_lawful (keyword key.Bool) (parameter cont
 
 pub set_item_lawful : (context : Context) → IsLawful (set_item context)
 set_item_lawful context =
-    let set = set_literal (λ kept value. one_more context (length kept)) in
+    let set = set_literal (λ kept value. one_more context (length kept)) no_test in
     let of_int = behind_mark (keyword key.Int) (parameter context set) in
     behind_mark_lawful (keyword key.Set) (behind_mark (keyword key.Of) of_int) (keyword_lawful key.Set)
     (behind_mark_lawful (keyword key.Of) of_int (keyword_lawful key.Of)
     (behind_mark_lawful (keyword key.Int) (parameter context set) (keyword_lawful key.Int)
-    (parameter_lawful context set (set_literal_lawful (λ kept value. one_more context (length kept))))))
+    (parameter_lawful context set (set_literal_lawful (λ kept value. one_more context (length kept)) no_test))))
 
 variable_end_lawful : (context : Context) (type : TypeWords) → IsLawful (variable_end context type)
 variable_end_lawful context type =
@@ -169,8 +169,8 @@ no_args context type (inr y) = refl
 pub variable_item_lawful : (context : Context) → IsLawful (variable_item context)
 variable_item_lawful context =
     let names = λ (type : TypeWords). behind_mark (stop Colon) (chain (name (fresh_variable context)) (λ bytes. annotated (λ notes. variable_end context type))) in
-    behind_mark_lawful (keyword key.Var) (chain (var_type (domain_test context)) names) (keyword_lawful key.Var)
-    (chain_lawful (var_type (domain_test context)) names (var_type_lawful (domain_test context)) (λ type.
+    behind_mark_lawful (keyword key.Var) (chain (var_type (domain_test context) beyond_small) names) (keyword_lawful key.Var)
+    (chain_lawful (var_type (domain_test context) beyond_small) names (var_type_lawful (domain_test context) beyond_small) (λ type.
     behind_mark_lawful (stop Colon) (chain (name (fresh_variable context)) (λ bytes. annotated (λ notes. variable_end context type))) (stop_lawful Colon)
     (chain_lawful (name (fresh_variable context)) (λ bytes. annotated (λ notes. variable_end context type)) (name_lawful (fresh_variable context))
     (λ bytes. annotated_lawful (λ notes. variable_end context type) (record {

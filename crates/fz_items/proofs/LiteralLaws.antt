@@ -75,25 +75,25 @@ numbers_lawful test =
       apart = λ kept c. refl;
     }))
 
-pub set_literal_lawful : (test : List (ℤ × Bool) → ℤ → Option Fault) → IsLawful (set_literal test)
-set_literal_lawful test =
-    either_lawful (is_open Curly) (numbers test) (range (test [])) (record { first = λ x. refl; second = λ y. refl })
-    (numbers_lawful test) (range_lawful (test []))
+pub set_literal_lawful : (test : List (ℤ × Bool) → ℤ → Option Fault) (bound : ℤ → Option Fault) → IsLawful (set_literal test bound)
+set_literal_lawful test bound =
+    either_lawful (is_open Curly) (numbers test) (range bound) (record { first = λ x. refl; second = λ y. refl })
+    (numbers_lawful test) (range_lawful bound)
 
 -- a set begins with neither `bool` nor `int`
-no_key : (k : Keyword) (test : List (ℤ × Bool) → ℤ → Option Fault) (z : List (ℤ × Bool) ⊎ ((ℤ × Bool) × (ℤ × Bool))) → IsLed (is_key k) false ((set_literal test).spell z)
-no_key k test (inl x) = refl
-no_key k test (inr y) = refl
+no_key : (k : Keyword) (test : List (ℤ × Bool) → ℤ → Option Fault) (bound : ℤ → Option Fault) (z : List (ℤ × Bool) ⊎ ((ℤ × Bool) × (ℤ × Bool))) → IsLed (is_key k) false ((set_literal test bound).spell z)
+no_key k test bound (inl x) = refl
+no_key k test bound (inr y) = refl
 
-no_bool : (test : List (ℤ × Bool) → ℤ → Option Fault) (z : Unit {0} ⊎ (List (ℤ × Bool) ⊎ ((ℤ × Bool) × (ℤ × Bool)))) → IsLed (is_key key.Bool) false ((either (is_key key.Int) (keyword key.Int) (set_literal test)).spell z)
-no_bool test (inl x) = refl
-no_bool test (inr y) = no_key key.Bool test y
+no_bool : (test : List (ℤ × Bool) → ℤ → Option Fault) (bound : ℤ → Option Fault) (z : Unit {0} ⊎ (List (ℤ × Bool) ⊎ ((ℤ × Bool) × (ℤ × Bool)))) → IsLed (is_key key.Bool) false ((either (is_key key.Int) (keyword key.Int) (set_literal test bound)).spell z)
+no_bool test bound (inl x) = refl
+no_bool test bound (inr y) = no_key key.Bool test bound y
 
-pub var_type_lawful : (test : List (ℤ × Bool) → ℤ → Option Fault) → IsLawful (var_type test)
-var_type_lawful test =
-    either_lawful (is_key key.Bool) (keyword key.Bool) (either (is_key key.Int) (keyword key.Int) (set_literal test))
-    (record { first = λ x. refl; second = no_bool test })
+pub var_type_lawful : (test : List (ℤ × Bool) → ℤ → Option Fault) (bound : ℤ → Option Fault) → IsLawful (var_type test bound)
+var_type_lawful test bound =
+    either_lawful (is_key key.Bool) (keyword key.Bool) (either (is_key key.Int) (keyword key.Int) (set_literal test bound))
+    (record { first = λ x. refl; second = no_bool test bound })
     (keyword_lawful key.Bool)
-    (either_lawful (is_key key.Int) (keyword key.Int) (set_literal test)
-    (record { first = λ x. refl; second = no_key key.Int test })
-    (keyword_lawful key.Int) (set_literal_lawful test))
+    (either_lawful (is_key key.Int) (keyword key.Int) (set_literal test bound)
+    (record { first = λ x. refl; second = no_key key.Int test bound })
+    (keyword_lawful key.Int) (set_literal_lawful test bound))

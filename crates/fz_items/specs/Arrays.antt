@@ -12,8 +12,8 @@ use Rattle.dp_grammar.specs.Leaf.{leaf, tested_mark}
 use Rattle.dp_grammar.specs.Listed.{listed}
 use Rattle.dp_grammar.specs.Whole.{whole}
 use Rattle.fz_items.specs.Annotations.{Balanced, Annotation, Annotated, annotated}
-use Rattle.fz_items.specs.Context.{Context, BasicText, Meant, meaning, known, or_else, refuse_if, one_more, fresh, int_test, bool_test, const_test, bool_const_test}
-use Rattle.fz_items.specs.Items.{IntText, SetWords, TypeWords, no_test, array_literal, parameter, domain_test}
+use Rattle.fz_items.specs.Context.{Context, BasicText, Meant, meaning, known, or_else, refuse_if, one_more, fresh, int_test, bool_test, const_test, bool_const_test, beyond_small, with_elements}
+use Rattle.fz_items.specs.Items.{IntText, SetWords, TypeWords, no_test, array_literal, parameter, domain_test, type_elements}
 use Rattle.fz_items.specs.Literals.{name, integer, range, var_type}
 use Rattle.fz_items.specs.Marks.{Fault, Kind, Production, is_key, is_stop, is_close, keyword, stop, opens, closes}
 use Rattle.fz_items.specs.Words.{Round, Square, Comma, Semicolon, Colon, DoubleDot, Equals, Word, Number, Stop, bracketing}
@@ -120,8 +120,8 @@ elements_end context size type notes =
 -- 'var' vtype ':' NAME annotations '=' arraylit ';'
 abbrev pub variables : Context → IntText → Production (TypeWords × (List ℕ × Annotated (List BasicText)))
 variables context size =
-    behind_mark (keyword key.Var) (chain (var_type (domain_test context)) (λ type.
-    behind_mark (stop Colon) (chain (name (fresh context)) (λ bytes. annotated (elements_end context size type)))))
+    behind_mark (keyword key.Var) (chain (var_type (domain_test context) beyond_small) (λ type.
+    behind_mark (stop Colon) (chain (name (fresh context)) (λ bytes. annotated (elements_end (with_elements context (type_elements type)) size type)))))
 
 -- 'array' '[' '1' '..' INT ']' 'of', and the one or the other
 abbrev pub array_item : Context → Production ((Bool × IntText) × ((TypeWords × (List ℕ × Annotated (List BasicText))) ⊎ ((Unit {0} ⊎ Unit {0}) × (List ℕ × Annotated (List BasicText)))))

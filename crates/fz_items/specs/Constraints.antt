@@ -33,27 +33,27 @@ amount_test (IntConst value) = amount_limit value
 amount_test IntVar = Some Unsupported
 amount_test _ = Some Kind
 
--- the first refusal of an element, None for a variable
-abbrev pub each_test : Fault → (ℤ → Option Fault) → List (Option ℤ) → Option Fault
-each_test variable test [] = None
-each_test variable test (None ∷ elements) = Some variable
-each_test variable test (Some value ∷ elements) = or_else (test value) (each_test variable test elements)
+-- the first refusal of a constant among the elements
+abbrev pub each_test : (ℤ → Option Fault) → List (Option ℤ) → Option Fault
+each_test test [] = None
+each_test test (None ∷ elements) = each_test test elements
+each_test test (Some value ∷ elements) = or_else (test value) (each_test test elements)
 
--- an array of integers, its variables refused so, its constants tested
+-- an array of integers: a variable is refused so, and else the constants are tested
 abbrev pub constants_test : Fault → (ℤ → Option Fault) → Meant → Option Fault
-constants_test variable test (IntArray elements) = each_test variable test elements
+constants_test variable test (IntArray parameter elements) = or_else (refuse_if (list_any is_none elements) variable) (each_test test elements)
 constants_test variable test _ = Some Kind
 
 abbrev pub ints_test : Meant → Option Fault
-ints_test (IntArray elements) = None
+ints_test (IntArray parameter elements) = None
 ints_test _ = Some Kind
 
 abbrev pub bools_test : Meant → Option Fault
-bools_test (BoolArray elements) = None
+bools_test (BoolArray parameter elements) = None
 bools_test _ = Some Kind
 
 abbrev pub bool_consts_test : Meant → Option Fault
-bool_consts_test (BoolArray elements) = refuse_if (list_any is_none elements) Kind
+bool_consts_test (BoolArray parameter elements) = refuse_if (list_any is_none elements) Kind
 bool_consts_test _ = Some Kind
 
 abbrev pub set_test : Meant → Option Fault
@@ -198,8 +198,8 @@ pairs_arrays arg.Amounts = true
 pairs_arrays _ = false
 
 abbrev pub meant_length : Option Meant → Option ℕ
-meant_length (Some (IntArray elements)) = Some (length elements)
-meant_length (Some (BoolArray elements)) = Some (length elements)
+meant_length (Some (IntArray parameter elements)) = Some (length elements)
+meant_length (Some (BoolArray parameter elements)) = Some (length elements)
 meant_length _ = None
 
 abbrev pub array_length : Context → ArgWords → Option ℕ

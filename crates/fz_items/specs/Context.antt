@@ -3,15 +3,15 @@ use Rattle.std.specs.Prelude.{ℕ, ◌+◌, Bool, true, false, nat_lt, nat_le, L
 use Rattle.std.specs.Option.{option_map_or}
 use Rattle.fz_items.specs.Marks.{Fault, Unsupported, Unknown, Declared, Kind, Limit}
 
--- what a name stands for; an array by its elements, None for a variable
+-- what a name stands for; an array by whether it is a parameter, and by its elements, None for a variable
 pub data Meant : Type 0 where
   IntConst : ℤ → Meant
   BoolConst : Bool → Meant
   SetConst : Meant
   IntVar : Meant
   BoolVar : Meant
-  IntArray : List (Option ℤ) → Meant
-  BoolArray : List (Option Bool) → Meant
+  IntArray : Bool → List (Option ℤ) → Meant
+  BoolArray : Bool → List (Option Bool) → Meant
 
 pub record Entry : Type 0 where
   pub name : List ℕ
@@ -53,6 +53,10 @@ beyond_small value = refuse_if (nat_lt small (nat_abs value)) Limit
 -- one more element, behind `count` of the same list
 abbrev pub one_more : Context → ℕ → Option Fault
 one_more context count = refuse_if (nat_le max_elements (context.elements + count)) Limit
+
+-- with more elements
+abbrev pub with_elements : Context → ℕ → Context
+with_elements context count = record context { elements = context.elements + count }
 
 -- ---- names
 
@@ -111,4 +115,6 @@ goal_test IntVar = None
 goal_test (IntConst value) = Some Unsupported
 goal_test (BoolConst value) = Some Unsupported
 goal_test SetConst = Some Unsupported
+goal_test (IntArray true elements) = Some Unsupported
+goal_test (BoolArray true elements) = Some Unsupported
 goal_test _ = Some Kind

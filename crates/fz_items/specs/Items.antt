@@ -25,6 +25,16 @@ SetWords = List IntText ⊎ (IntText × IntText)
 abbrev pub TypeWords : Type 0
 TypeWords = Unit {0} ⊎ (Unit {0} ⊎ SetWords)
 
+abbrev pub set_elements : SetWords → ℕ
+set_elements (inl numbers) = length numbers
+set_elements (inr bounds) = 0
+
+-- how many numbers a type lists
+abbrev pub type_elements : TypeWords → ℕ
+type_elements (inl bool) = 0
+type_elements (inr (inl int)) = 0
+type_elements (inr (inr set)) = set_elements set
+
 abbrev pub no_test : {X : Type 0} → X → Option Fault
 no_test x = None
 
@@ -86,11 +96,11 @@ bool_item context = behind_mark (keyword key.Bool) (parameter context truth)
 abbrev pub set_item : Context → Production (List ℕ × Annotated SetWords)
 set_item context =
     behind_mark (keyword key.Set) (behind_mark (keyword key.Of) (behind_mark (keyword key.Int)
-    (parameter context (set_literal (λ kept value. one_more context (length kept))))))
+    (parameter context (set_literal (λ kept value. one_more context (length kept)) no_test))))
 
 -- ---- variables
 
--- a bound or a value of a type
+-- a listed value of a type
 abbrev pub domain_test : Context → List IntText → ℤ → Option Fault
 domain_test context kept value = or_else (beyond_small value) (one_more context (length kept))
 
@@ -116,6 +126,6 @@ variable_end context type =
 -- 'var' vtype ':' NAME annotations ('=' basic)? ';'
 abbrev pub variable_item : Context → Production (TypeWords × (List ℕ × Annotated (BasicText ⊎ Unit {0})))
 variable_item context =
-    behind_mark (keyword key.Var) (chain (var_type (domain_test context)) (λ type.
+    behind_mark (keyword key.Var) (chain (var_type (domain_test context) beyond_small) (λ type.
     behind_mark (stop Colon) (chain (name (fresh_variable context)) (λ bytes.
     annotated (λ notes. variable_end context type)))))

@@ -38,10 +38,10 @@ numbers test = behind_mark (opens Curly) (listed (record {
   close = λ kept. closes Curly;
 }))
 
--- numbers in brackets, or a range
-abbrev pub set_literal : (List (ℤ × Bool) → ℤ → Option Fault) → Production (List (ℤ × Bool) ⊎ ((ℤ × Bool) × (ℤ × Bool)))
-set_literal test = either (is_open Curly) (numbers test) (range (test []))
+-- numbers in brackets, or a range, whose numbers have tests of their own
+abbrev pub set_literal : (List (ℤ × Bool) → ℤ → Option Fault) → (ℤ → Option Fault) → Production (List (ℤ × Bool) ⊎ ((ℤ × Bool) × (ℤ × Bool)))
+set_literal test bound = either (is_open Curly) (numbers test) (range bound)
 
 -- 'bool', 'int', or a set of integers
-abbrev pub var_type : (List (ℤ × Bool) → ℤ → Option Fault) → Production (Unit {0} ⊎ (Unit {0} ⊎ (List (ℤ × Bool) ⊎ ((ℤ × Bool) × (ℤ × Bool)))))
-var_type test = either (is_key key.Bool) (keyword key.Bool) (either (is_key key.Int) (keyword key.Int) (set_literal test))
+abbrev pub var_type : (List (ℤ × Bool) → ℤ → Option Fault) → (ℤ → Option Fault) → Production (Unit {0} ⊎ (Unit {0} ⊎ (List (ℤ × Bool) ⊎ ((ℤ × Bool) × (ℤ × Bool)))))
+var_type test bound = either (is_key key.Bool) (keyword key.Bool) (either (is_key key.Int) (keyword key.Int) (set_literal test bound))

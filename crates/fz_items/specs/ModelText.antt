@@ -11,8 +11,8 @@ use Rattle.dp_grammar.specs.Whole.{whole}
 use Rattle.fz_items.specs.Annotations.{Balanced, balanced, Annotated, annotated}
 use Rattle.fz_items.specs.Arrays.{array_item}
 use Rattle.fz_items.specs.Constraints.{ConstraintWords, constraint_item}
-use Rattle.fz_items.specs.Context.{Context, BasicText, Meant, IntConst, BoolConst, SetConst, IntVar, BoolVar, IntArray, BoolArray, meaning, known, goal_test, meant_by}
-use Rattle.fz_items.specs.Items.{IntText, SetWords, TypeWords, no_test, int_item, bool_item, set_item, variable_item, is_bool_type}
+use Rattle.fz_items.specs.Context.{Context, BasicText, Meant, IntConst, BoolConst, SetConst, IntVar, BoolVar, IntArray, BoolArray, meaning, known, goal_test, meant_by, with_elements}
+use Rattle.fz_items.specs.Items.{IntText, SetWords, TypeWords, no_test, int_item, bool_item, set_item, variable_item, is_bool_type, type_elements, set_elements}
 use Rattle.fz_items.specs.Literals.{name}
 use Rattle.fz_items.specs.Marks.{Fault, Unsupported, Production, is_key, keyword, stop, opens}
 use Rattle.fz_items.specs.Words.{Round, Square, Semicolon, Word, Float}
@@ -55,18 +55,6 @@ closing (inr c) = c
 abbrev pub declares : Context → List ℕ → Meant → Context
 declares context bytes meant = record context { entries = context.entries ++ record { name = bytes; meant = meant } ∷ [] }
 
-abbrev pub with_elements : Context → ℕ → Context
-with_elements context count = record context { elements = context.elements + count }
-
-abbrev pub set_elements : SetWords → ℕ
-set_elements (inl numbers) = length numbers
-set_elements (inr bounds) = 0
-
-abbrev pub type_elements : TypeWords → ℕ
-type_elements (inl bool) = 0
-type_elements (inr (inl int)) = 0
-type_elements (inr (inr set)) = set_elements set
-
 abbrev pub int_constant : Option Meant → Option ℤ
 int_constant (Some (IntConst value)) = Some value
 int_constant _ = None
@@ -75,17 +63,18 @@ abbrev pub bool_constant : Option Meant → Option Bool
 bool_constant (Some (BoolConst value)) = Some value
 bool_constant _ = None
 
-abbrev pub array_of : Context → Bool → List BasicText → Meant
-array_of context bools elements =
-    if bools then BoolArray (map (λ text. bool_constant (meaning context text)) elements) else IntArray (map (λ text. int_constant (meaning context text)) elements)
+-- an array of Booleans or integers, a parameter or not
+abbrev pub array_of : Context → Bool → Bool → List BasicText → Meant
+array_of context bools parameter elements =
+    if bools then BoolArray parameter (map (λ text. bool_constant (meaning context text)) elements) else IntArray parameter (map (λ text. int_constant (meaning context text)) elements)
 
 abbrev pub after_constants : Context → Unit {0} ⊎ Unit {0} → List ℕ → List BasicText → Context
-after_constants context (inl bool) bytes elements = with_elements (declares context bytes (array_of context true elements)) (length elements)
-after_constants context (inr int) bytes elements = with_elements (declares context bytes (array_of context false elements)) (length elements)
+after_constants context (inl bool) bytes elements = with_elements (declares context bytes (array_of context true true elements)) (length elements)
+after_constants context (inr int) bytes elements = with_elements (declares context bytes (array_of context false true elements)) (length elements)
 
 abbrev pub after_array : Context → ArrayWords → Context
 after_array context (size, inl a) =
-    with_elements (declares context a.1.0 (array_of context (is_bool_type a.0) (closing a.1.1))) (type_elements a.0 + length (closing a.1.1))
+    with_elements (declares context a.1.0 (array_of context (is_bool_type a.0) false (closing a.1.1))) (type_elements a.0 + length (closing a.1.1))
 after_array context (size, inr a) = after_constants context a.0 a.1.0 (closing a.1.1)
 
 abbrev pub after_variable : Context → VariableWords → Context
