@@ -1,5 +1,5 @@
 -- Names, integers, sets and the types of variables, each with a test of its numbers.
-use Rattle.std.specs.Prelude.{ℕ, Bool, ◌⊎◌, List, [], Option, Some, None, ℤ}
+use Rattle.std.specs.Prelude.{ℕ, Bool, ◌⊎◌, List, Option, Some, None, ℤ}
 use Rattle.fz_token.specs.declared.Keyword.TheVariants as key
 use Rattle.dp_grammar.specs.Brackets.{Plain}
 use Rattle.dp_grammar.specs.Chain.{chain, behind_mark}
