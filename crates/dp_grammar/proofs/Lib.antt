@@ -1,0 +1,10 @@
+pub mod Bracketings
+pub mod Carry
+pub mod Chains
+pub mod Choices
+pub mod Leaves
+pub mod Lists
+pub mod Loops
+pub mod Manys
+pub mod Only
+pub mod Wholes
