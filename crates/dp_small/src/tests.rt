@@ -157,14 +157,14 @@ fn fronts_of_the_log(rt: HostRuntime) -> Result<(), Fail> {
     let problem = read_model(rt.alloc(), MODEL)
         .ok()
         .ok_or("the model has the form")?;
-    let mut lines = 0u64;
+    let mut next = 1u64;
     for (place, byte) in LOG.iter().enumerate() {
         if *byte == b'\n' && place + 1 < LOG.len() {
-            lines = lines.saturating_add(1);
+            next = next.saturating_add(1);
             let answer = judge_log(rt.alloc(), &problem, &LOG[..place + 1])
                 .ok()
                 .ok_or("memory")?;
-            assert!(rt; is_wanted(&answer, Wanted::NotBuilt(lines + 1)));
+            assert!(rt; is_wanted(&answer, Wanted::NotBuilt(next)));
         }
     }
     let answer = judge_log(rt.alloc(), &problem, &LOG[..LOG.len() - 1])
