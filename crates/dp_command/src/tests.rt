@@ -30,6 +30,20 @@ fn desk_of(
     Ok(MemoryDesk::new(alloc, files, piece.max(1), failing.to_vec(alloc)?))
 }
 
+// Checks the log of these names, and gives back the status and the answer.
+fn checked(
+    alloc: Global,
+    model: &str,
+    log: &[u8],
+    piece: usize,
+    failing: &[u64],
+) -> Result<(u8, Vec<u8>), AllocError> {
+    let mut desk = desk_of(alloc, model, log, piece, failing)?;
+    let status = run(alloc, &["check", "m", "l"], &mut desk);
+    let answer = desk.written(Out::Answer).unwrap_or(b"not told");
+    Ok((status, answer.to_vec(alloc)?))
+}
+
 #[test]
 fn logs_are_judged(rt: HostRuntime) -> Result<(), Fail> {
     let alloc = rt.alloc();
@@ -81,13 +95,9 @@ fn logs_are_judged(rt: HostRuntime) -> Result<(), Fail> {
     for (name, last, status, text) in rows {
         let log = format!(in alloc; "{STEPS}{last}")?;
         for piece in [1, 16, 1_000_000] {
-            let mut desk = desk_of(alloc, MODEL, log.as_bytes(), piece, &[])?;
-            assert_eq!(rt;
-                run(alloc, &["check", "m", "l"], &mut desk),
-                status,
-                "{name}"
-            );
-            assert_eq!(rt; desk.written(Out::Answer), Some(text.as_bytes()), "{name}");
+            let (answered, answer) = checked(alloc, MODEL, log.as_bytes(), piece, &[])?;
+            assert_eq!(rt; answered, status, "{name}");
+            assert_eq!(rt; answer.as_slice(), text.as_bytes(), "{name}");
         }
     }
     Ok(())
@@ -128,13 +138,9 @@ fn the_first_refusal_is_told(rt: HostRuntime) -> Result<(), Fail> {
         ("an empty model", "", "", 3, "model refused: NotBuilt\n"),
     ];
     for (name, model, log, status, text) in rows {
-        let mut desk = desk_of(alloc, model, log.as_bytes(), 1_000_000, &[])?;
-        assert_eq!(rt;
-            run(alloc, &["check", "m", "l"], &mut desk),
-            status,
-            "{name}"
-        );
-        assert_eq!(rt; desk.written(Out::Answer), Some(text.as_bytes()), "{name}");
+        let (answered, answer) = checked(alloc, model, log.as_bytes(), 1_000_000, &[])?;
+        assert_eq!(rt; answered, status, "{name}");
+        assert_eq!(rt; answer.as_slice(), text.as_bytes(), "{name}");
     }
     Ok(())
 }
@@ -175,34 +181,32 @@ fn failed_calls_are_told(rt: HostRuntime) -> Result<(), Fail> {
     let alloc = rt.alloc();
     let log = format!(in alloc; "{STEPS}n 8 0 1 2 3 4 5 6 7\nc UNSAT\n")?;
     for call in 1..7 {
-        let mut desk = desk_of(alloc, MODEL, log.as_bytes(), 1_000_000, &[call])?;
+        let (answered, answer) = checked(alloc, MODEL, log.as_bytes(), 1_000_000, &[call])?;
+        assert_eq!(rt; answered, 5, "call {call} fails");
         assert_eq!(rt;
-            run(alloc, &["check", "m", "l"], &mut desk),
-            5,
+            answer.as_slice(),
+            b"read fault\n".as_slice(),
             "call {call} fails"
         );
-        assert_eq!(rt; desk.written(Out::Answer), Some(b"read fault\n".as_slice()));
-        let mut desk = desk_of(alloc, MODEL, log.as_bytes(), 1_000_000, &[call, call + 1])?;
+        let (answered, answer) = checked(
+            alloc,
+            MODEL,
+            log.as_bytes(),
+            1_000_000,
+            &[call, call + 1],
+        )?;
+        assert_eq!(rt; answered, 6, "call {call} and the next fail");
         assert_eq!(rt;
-            run(alloc, &["check", "m", "l"], &mut desk),
-            6,
+            answer.as_slice(),
+            b"".as_slice(),
             "call {call} and the next fail"
         );
-        assert_eq!(rt; desk.written(Out::Answer), Some(b"".as_slice()));
     }
-    let mut desk = desk_of(alloc, MODEL, log.as_bytes(), 1_000_000, &[7])?;
-    assert_eq!(rt;
-        run(alloc, &["check", "m", "l"], &mut desk),
-        6,
-        "the write fails"
-    );
-    assert_eq!(rt; desk.written(Out::Answer), Some(b"".as_slice()));
-    let mut desk = desk_of(alloc, MODEL, log.as_bytes(), 1_000_000, &[8])?;
-    assert_eq!(rt;
-        run(alloc, &["check", "m", "l"], &mut desk),
-        0,
-        "there are seven calls"
-    );
+    let (answered, answer) = checked(alloc, MODEL, log.as_bytes(), 1_000_000, &[7])?;
+    assert_eq!(rt; answered, 6, "the write fails");
+    assert_eq!(rt; answer.as_slice(), b"".as_slice(), "the write fails");
+    let (answered, answer) = checked(alloc, MODEL, log.as_bytes(), 1_000_000, &[8])?;
+    assert_eq!(rt; answered, 0, "there are seven calls");
     for words in [["check", "absent", "l"], ["check", "m", "absent"]] {
         let mut desk = desk_of(alloc, MODEL, log.as_bytes(), 1_000_000, &[])?;
         assert_eq!(rt; run(alloc, &words, &mut desk), 5, "at {words:?}");
