@@ -1,0 +1,4 @@
+pub mod LiteralLemmas
+pub mod OrderLemmas
+pub mod StepLemmas
+pub mod TableLemmas

@@ -1,0 +1,5 @@
+pub mod Atoms
+pub mod AtomLaws
+pub mod Steps
+pub mod Written
+pub mod Numbering

@@ -1,0 +1,10 @@
+// Writes logs: numbers atoms and steps, and spells the lines.
+#![tactic(auto)]
+
+mod key;
+mod numbering;
+mod step;
+
+
+
+
