@@ -2,3 +2,5 @@ pub mod LiteralLemmas
 pub mod OrderLemmas
 pub mod StepLemmas
 pub mod TableLemmas
+pub mod FirstLemmas
+pub mod WrittenLemmas

@@ -1,5 +1,5 @@
 -- The lines of a step are those of its new atoms, and its own.
-use Rattle.std.proofs.Common.{◌≡◌, ℕ, ◌+◌, ◌≤◌, ◌^◌, true, Option, Some, None, List, [], ◌∷◌, ◌++◌, map, length, ℤ, sym, ap, ◌∙◌, subst, refl, append_assoc, arith}
+use Rattle.std.proofs.Common.{◌≡◌, ℕ, ◌≤◌, ◌^◌, true, Option, Some, None, List, [], ◌∷◌, ◌++◌, length, ℤ, sym, ap, ◌∙◌, subst, refl}
 use Rattle.std.proofs.lemmas.List.{append-nil}
 use Rattle.std.proofs.lemmas.Grind.{flat_map-append}
 use Rattle.std.specs.Prelude.{IfSome}
@@ -16,9 +16,9 @@ use Rattle.dp_lines.specs.declared.line.Claim.TheVariants.{Unsat, Bound}
 use Rattle.dp_writer.specs.Atoms.{Named, literal_in}
 use Rattle.dp_writer.specs.Steps.{Step, atoms_of, line_of, literals_in}
 use Rattle.dp_writer.specs.Steps.Step.{Inference, Nogood, Conclusion}
-use Rattle.dp_writer.specs.Numbering.{Defines, IsClaimLine, Writes, claim_literals, literals_by, new_lines, step_lines, with_atoms}
+use Rattle.dp_writer.specs.Numbering.{Defines, IsClaimLine, Writes, claim_literals, literals_by, new_lines, with_atoms}
 use Rattle.dp_writer.proofs.LiteralLemmas.{kept_literals, literals_allowed, with_atoms_front}
-use Rattle.dp_writer.proofs.OrderLemmas.{defines_append, each_append, literals_by_append, with_atoms_append}
+use Rattle.dp_writer.proofs.OrderLemmas.{defines_append, each_append, with_atoms_append}
 
 -- the lines of the atoms, and then that of the step
 pub writes_from : (number : ℕ) (step : Step) (old new : List Atomic) (mid text : List ℕ) (line : Line) → Defines (atoms_of step) old new [] mid

@@ -6,7 +6,6 @@ use Rattle.dp_base.specs.Lists.{Each}
 use Rattle.dp_domain.specs.Atoms.{Atomic}
 use Rattle.dp_lines.specs.Allowed.{IsAllowed}
 use Rattle.dp_lines.specs.Spelling.{line_text}
-use Rattle.dp_lines.specs.declared.line.Line.{Line}
 use Rattle.dp_writer.specs.Atoms.{Named, same, number_in}
 use Rattle.dp_writer.specs.Steps.{definition}
 use Rattle.dp_writer.specs.Numbering.{line_if_new, with_atom}

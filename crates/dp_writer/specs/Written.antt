@@ -45,10 +45,14 @@ inference p premises consequent constraint label = Inference (map (named p) prem
 abbrev pub nogood : Csp → List Atomic → List ℕ → Step
 nogood p atoms hints = Nogood (map (named p) atoms) hints
 
+-- the bound of a claim, where it has one
+abbrev pub bound_of : Csp → Verdict → Option Named
+bound_of p Unsat = None
+bound_of p (Bound a) = Some (named p a)
+
 -- the conclusion of a claim
 abbrev pub conclusion : Csp → Verdict → Step
-conclusion p Unsat = Conclusion None
-conclusion p (Bound a) = Conclusion (Some (named p a))
+conclusion p claim = Conclusion (bound_of p claim)
 
 -- the defined atoms in the order of their numbers, how many steps have numbers, and the bytes that
 -- were not handed over yet

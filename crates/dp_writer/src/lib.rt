@@ -4,7 +4,6 @@
 mod key;
 mod numbering;
 mod step;
+mod writer;
 
-
-
-
+pub use writer::Writer;

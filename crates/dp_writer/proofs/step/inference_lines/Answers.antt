@@ -1,6 +1,5 @@
-use Rattle.std.proofs.Common.{◌≡◌, ℕ, true, ap, ◌∙◌, map, subst, sym, List, [], rules}
-use Rattle.std.specs.Option.{option_map, option_to_list}
-use Rattle.dp_domain.specs.Atoms.{Atomic}
+use Rattle.std.proofs.Common.{◌≡◌, ap, ◌∙◌, map, subst, [], rules}
+use Rattle.std.specs.Option.{option_map}
 use Rattle.dp_lines.specs.Allowed.{is_label}
 use Rattle.dp_lines.specs.Spelling.{line_text}
 use Rattle.dp_lines.specs.declared.line.Line.TheVariants.{Inference as inference_line}
