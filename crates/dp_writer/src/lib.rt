@@ -7,3 +7,6 @@ mod step;
 mod writer;
 
 pub use writer::Writer;
+
+#[cfg(test)]
+mod tests;

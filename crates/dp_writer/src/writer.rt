@@ -64,6 +64,7 @@ impl Writer {
         requires label { is_label label.now ≡ true }
         ensures written { OnOk result (Adds self.old (inference problem.now premises.now consequent constraint label.now) self.new) }
         ensures number { IfOk result (λ n. n ≡ self.old.count + 1) }
+        ensures counted { IfOk result (λ n. self.new.count ≡ n) }
         ensures err { OnErr result (self.new ≡ self.old) }
     {
         let _goal = problem.goal();
@@ -96,6 +97,7 @@ impl Writer {
         requires hints { Each (IsAnswered self.old) hints.now }
         ensures written { OnOk result (Adds self.old (nogood problem.now atoms.now hints.now) self.new) }
         ensures number { IfOk result (λ n. n ≡ self.old.count + 1) }
+        ensures counted { IfOk result (λ n. self.new.count ≡ n) }
         ensures err { OnErr result (self.new ≡ self.old) }
     {
         let number = next_number(self.count)?;
@@ -115,8 +117,9 @@ impl Writer {
 
     /// Writes the conclusion.
     pub fn conclude(&mut self, problem: &Problem, claim: Verdict) -> Result<(), Memory>
-        requires { IsClaimOf problem.now claim }
+        requires claim { IsClaimOf problem.now claim }
         ensures written { OnOk result (Adds self.old (conclusion problem.now claim) self.new) }
+        ensures counted { OnOk result (self.new.count ≡ self.old.count) }
         ensures err { OnErr result (self.new ≡ self.old) }
     {
         let kept = self.atoms.len();
