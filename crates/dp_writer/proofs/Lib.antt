@@ -4,3 +4,4 @@ pub mod StepLemmas
 pub mod TableLemmas
 pub mod FirstLemmas
 pub mod WrittenLemmas
+pub mod TestProblem
