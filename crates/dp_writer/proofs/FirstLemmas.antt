@@ -12,7 +12,7 @@ use Rattle.dp_writer.specs.Numbering.{new_lines, step_lines, with_atom, with_ato
 
 -- ---- each atom once
 
-abbrev others : Atomic → List Named → List Named
+abbrev pub others : Atomic → List Named → List Named
 others a atoms = filter (λ b. not (same a b.atom)) atoms
 
 -- an atom that is the same as one is apart from what is apart from that one
@@ -27,7 +27,7 @@ any_step a d y ys zs apart true e rest =
 any_step a d y ys zs apart false e rest = ap (λ r. same d y.atom || r) rest
 
 -- an atom apart from a is among the others where it is among all
-any_others : (a d : Atomic) (atoms : List Named) → same a d ≡ false → list_any (same d) (atoms_in (others a atoms)) ≡ list_any (same d) (atoms_in atoms)
+pub any_others : (a d : Atomic) (atoms : List Named) → same a d ≡ false → list_any (same d) (atoms_in (others a atoms)) ≡ list_any (same d) (atoms_in atoms)
 any_others a d [] apart = refl
 any_others a d (y ∷ ys) apart = any_step a d y ys (others a ys) apart (same a y.atom) refl (any_others a d ys apart)
 
@@ -41,7 +41,7 @@ others_append a (x ∷ xs) ys = here (same a x.atom) (others_append a xs ys)
     here false e = ap (λ l. x ∷ l) e
 
 -- the atom, where no test says that it is there
-abbrev unless_there : Bool → Named → List Named
+abbrev pub unless_there : Bool → Named → List Named
 unless_there b d = cond b [] (d ∷ [])
 
 last_step : (a : Atomic) (d : Named) (atoms : List Named) (b : Bool) → same a d.atom ≡ b

@@ -5,3 +5,4 @@ pub mod TableLemmas
 pub mod FirstLemmas
 pub mod WrittenLemmas
 pub mod TestProblem
+pub mod ReadingLemmas

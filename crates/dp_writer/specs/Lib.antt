@@ -1,5 +1,6 @@
 pub mod Atoms
 pub mod AtomLaws
 pub mod Steps
+pub mod Reading
 pub mod Written
 pub mod Numbering

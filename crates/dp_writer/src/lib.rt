@@ -2,10 +2,12 @@
 #![tactic(auto)]
 
 mod key;
+mod laws;
 mod numbering;
 mod step;
 mod writer;
 
+pub use laws::literals;
 pub use writer::Writer;
 
 #[cfg(test)]

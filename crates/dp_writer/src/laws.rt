@@ -1,0 +1,12 @@
+// Laws of the text of steps, as contracts of a function that does nothing.
+
+ghost use Rattle.std.specs.Prelude.{List};
+ghost use Rattle.dp_writer.specs.Reading.{AreRead, Stay};
+ghost use Rattle.dp_writer.specs.Steps.{Step};
+
+/// Each literal of a log stands for the atom that it was written for, and goes on to.
+pub fn literals()
+    ensures read { (steps : List Step) → AreRead steps }
+    ensures stay { (steps : List Step) → (later : List Step) → Stay steps later }
+{
+}
