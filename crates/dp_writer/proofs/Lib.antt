@@ -1,8 +1,8 @@
-pub mod LiteralLemmas
-pub mod OrderLemmas
-pub mod StepLemmas
 pub mod TableLemmas
+pub mod OrderLemmas
+pub mod LiteralLemmas
+pub mod StepLemmas
 pub mod FirstLemmas
 pub mod WrittenLemmas
-pub mod TestProblem
 pub mod ReadingLemmas
+pub mod TestProblem

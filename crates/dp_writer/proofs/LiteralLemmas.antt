@@ -1,5 +1,6 @@
 -- Literals, by the table of their turn and by the whole table.
 use Rattle.std.proofs.Common.{◌≡◌, ℕ, zero, suc, ◌+◌, ◌≤◌, ◌<◌, ◌^◌, Bool, true, false, not, ◌||◌, List, [], ◌∷◌, ◌++◌, cond, length, sym, ap, ◌∙◌, subst, refl, append_assoc, true≢false, arith}
+use Rattle.std.proofs.lemmas.Bool.{or_right}
 use Rattle.std.proofs.lemmas.List.{append-nil, length-append}
 use Rattle.std.specs.Prelude.{unsigned_abs}
 use Rattle.std.specs.List.{list_any, position_or_len}
@@ -10,7 +11,7 @@ use Rattle.dp_writer.specs.Atoms.{Named, defined, is_defined, same, signed_by, n
 use Rattle.dp_writer.specs.AtomLaws.{same_equiv}
 use Rattle.dp_writer.specs.Steps.{literals_in}
 use Rattle.dp_writer.specs.Numbering.{literals_by, with_atom, with_atoms}
-use Rattle.dp_writer.proofs.TableLemmas.{absent_place}
+use Rattle.dp_writer.proofs.TableLemmas.{absent_place, absent_step}
 
 -- ---- places
 
@@ -32,25 +33,9 @@ pub kept_place : {X : Type 0} (p : X → Bool) (xs more : List X) → list_any p
 kept_place p [] more found = absurd (true≢false (sym found))
 kept_place p (x ∷ xs) more found = kept_step (p x) (list_any p xs) (position_or_len p (xs ++ more)) (position_or_len p xs) (kept_place p xs more) found
 
-any_step : (b r s : Bool) → (r ≡ true → s ≡ true) → (b || r) ≡ true → (b || s) ≡ true
-any_step true r s rest found = refl
-any_step false r s rest found = rest found
-
-any_front : {X : Type 0} (p : X → Bool) (xs more : List X) → list_any p xs ≡ true → list_any p (xs ++ more) ≡ true
-any_front p [] more found = absurd (true≢false (sym found))
-any_front p (x ∷ xs) more found = any_step (p x) (list_any p xs) (list_any p (xs ++ more)) (any_front p xs more) found
-
-last_step : (b r : Bool) → r ≡ true → (b || r) ≡ true
-last_step true r h = refl
-last_step false r h = h
-
 any_last : {X : Type 0} (p : X → Bool) (xs : List X) (x : X) → p x ≡ true → list_any p (xs ++ x ∷ []) ≡ true
 any_last p [] x h = ap (λ b. b || false) h
-any_last p (y ∷ xs) x h = last_step (p y) (list_any p (xs ++ x ∷ [])) (any_last p xs x h)
-
-position_step : (b r : Bool) (n m : ℕ) → (r ≡ false → n ≡ m) → (b || r) ≡ false → cond (not b) (1 + n) 0 ≡ suc m
-position_step true r n m rest none = absurd (true≢false none)
-position_step false r n m rest none = let e : n ≡ m = rest none in omega arith
+any_last p (y ∷ xs) x h = or_right (p y) (list_any p (xs ++ x ∷ [])) (any_last p xs x h)
 
 first_last : (b : Bool) → b ≡ true → cond (not b) (1 + 0) 0 ≡ 0
 first_last true h = refl
@@ -60,7 +45,7 @@ first_last false h = absurd (true≢false (sym h))
 pub last_place : {X : Type 0} (p : X → Bool) (xs : List X) (x : X) → p x ≡ true → list_any p xs ≡ false → position_or_len p (xs ++ x ∷ []) ≡ length xs
 last_place p [] x h none = first_last (p x) h
 last_place p (y ∷ xs) x h none =
-    position_step (p y) (list_any p xs) (position_or_len p (xs ++ x ∷ [])) (length xs) (last_place p xs x h) none
+    absent_step (p y) (list_any p xs) (position_or_len p (xs ++ x ∷ [])) (length xs) (last_place p xs x h) none
 
 -- ---- one atom
 

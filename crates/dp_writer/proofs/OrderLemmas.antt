@@ -5,6 +5,7 @@ use Rattle.std.proofs.Math.Seq.{take-append_seam}
 use Rattle.std.proofs.lemmas.Grind.{flat_map-append}
 use Rattle.std.specs.List.{flat_map}
 use Rattle.dp_base.specs.Lists.{Each}
+use Rattle.dp_base.proofs.Lists.{Each-append}
 use Rattle.dp_domain.specs.Atoms.{Atomic, negated}
 use Rattle.dp_lines.specs.Allowed.{IsAllowed}
 use Rattle.dp_lines.specs.Spelling.{line_text}
@@ -12,10 +13,6 @@ use Rattle.dp_parts.specs.Problems.{Csp}
 use Rattle.dp_writer.specs.Atoms.{Named, defined, named_defined, is_defined, literal_in}
 use Rattle.dp_writer.specs.Written.{named, own_name}
 use Rattle.dp_writer.specs.Numbering.{Defines, line_if_new, literals_by, new_lines, with_atom, with_atoms}
-
-pub each_append : {A : Type 0} (P : A → Type 0) (xs ys : List A) → Each P xs → Each P ys → Each P (xs ++ ys)
-each_append P [] ys all more = more
-each_append P (x ∷ xs) ys all more = (all.0, each_append P xs ys all.1 more)
 
 pub with_atoms_append : (table : List Atomic) (xs ys : List Named) → with_atoms table (xs ++ ys) ≡ with_atoms (with_atoms table xs) ys
 with_atoms_append table [] ys = refl
@@ -42,7 +39,7 @@ defines_append xs ys old mid new before between after front back = record {
       ∙ ap (λ t. before ++ t) (sym (flat_map-append line_text (new_lines old xs) (new_lines (with_atoms old xs) ys)))
       ∙ ap (λ ls. before ++ flat_map line_text ls) (sym (new_lines_append old xs ys));
   allowed = subst (Each IsAllowed) (sym (new_lines_append old xs ys))
-      (each_append IsAllowed (new_lines old xs) (new_lines (with_atoms old xs) ys) front.allowed
+      (Each-append IsAllowed (new_lines old xs) (new_lines (with_atoms old xs) ys) front.allowed
       (subst (λ t. Each IsAllowed (new_lines t ys)) front.table back.allowed));
 }
 

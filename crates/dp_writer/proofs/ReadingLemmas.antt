@@ -1,14 +1,13 @@
 -- The literals of steps stand for their atoms.
-use Rattle.std.proofs.Common.{◌≡◌, ℕ, zero, suc, ◌+◌, ◌<◌, Bool, true, false, not, ◌||◌, eqb, ◌⊎◌, Option, Some, None, List, [], ◌∷◌, ◌++◌, cond, map, length, slice_get, ℤ, pos, negsuc, neg_ℤ, sym, ap, ◌∙◌, subst, refl, append_assoc, true≢false, inl, inr, arith}
-use Rattle.std.proofs.lemmas.Bool.{and_parts, eqb-true}
+use Rattle.std.proofs.Common.{◌≡◌, ℕ, zero, suc, ◌+◌, Bool, true, false, not, ◌||◌, eqb, Some, List, [], ◌∷◌, ◌++◌, cond, map, slice_get, sym, ap, ◌∙◌, subst, refl, append_assoc, true≢false, inl, inr, arith}
+use Rattle.std.proofs.lemmas.Bool.{and_parts, eqb-true, or_left, or_right}
 use Rattle.std.proofs.lemmas.Bool.Decides.{Decides-int_eq}
 use Rattle.std.proofs.lemmas.List.{append-nil, map-append}
 use Rattle.std.proofs.lemmas.Grind.{flat_map-append}
 use Rattle.std.specs.Option.{option_map}
 use Rattle.std.specs.Ordering.{int_eq}
-use Rattle.std.specs.Bool.{Decides}
 use Rattle.std.specs.List.{flat_map, list_any, position_or_len}
-use Rattle.dp_base.specs.Lists.{Among, Each}
+use Rattle.dp_base.specs.Lists.{Among}
 use Rattle.dp_base.proofs.Lists.{Each-from_among}
 use Rattle.dp_domain.specs.Atoms.{Atomic, negated}
 use Rattle.dp_domain.specs.declared.atom.Op.{Op}
@@ -18,7 +17,7 @@ use Rattle.dp_domain.proofs.ExplanationLaws.{Among-flat_map, Among-flat_map_piec
 use Rattle.dp_writer.specs.Atoms.{Named, rank, same, defined, is_defined, named_defined, firsts, signed_by, number_in, literal_in}
 use Rattle.dp_writer.specs.AtomLaws.{same_equiv}
 use Rattle.dp_writer.specs.Steps.{Step, atoms_in, atoms_of, uses, table}
-use Rattle.dp_writer.specs.Reading.{atom_at, atom_of, AreRead, Stay}
+use Rattle.dp_writer.specs.Reading.{atom_of, AreRead, Stay}
 use Rattle.dp_writer.proofs.FirstLemmas.{any_others, firsts_push, others, unless_there}
 use Rattle.dp_writer.proofs.LiteralLemmas.{kept_place}
 
@@ -48,26 +47,18 @@ same_equal a b h =
 
 -- ---- each atom that is used is in the table
 
-here_step : (b r : Bool) → b ≡ true → (b || r) ≡ true
-here_step true r h = refl
-here_step false r h = absurd (true≢false (sym h))
-
-there_step : (b r : Bool) → r ≡ true → (b || r) ≡ true
-there_step true r h = refl
-there_step false r h = h
-
 pub among_firsts : (xs : List Named) (x : Named) → Among x xs → list_any (same x.atom) (atoms_in (firsts xs)) ≡ true
 among_firsts [] x h = absurd h
 among_firsts (y ∷ ys) x (inl e) =
-    here_step (same x.atom y.atom) (list_any (same x.atom) (atoms_in (others y.atom (firsts ys))))
+    or_left (same x.atom y.atom) (list_any (same x.atom) (atoms_in (others y.atom (firsts ys))))
     (subst (λ (z : Named). same x.atom z.atom ≡ true) e (same_equiv.refl x.atom))
 among_firsts (y ∷ ys) x (inr h) = later (same y.atom x.atom) refl (among_firsts ys x h)
   where
     later : (b : Bool) → same y.atom x.atom ≡ b → list_any (same x.atom) (atoms_in (firsts ys)) ≡ true
         → (same x.atom y.atom || list_any (same x.atom) (atoms_in (others y.atom (firsts ys)))) ≡ true
-    later true e found = here_step (same x.atom y.atom) (list_any (same x.atom) (atoms_in (others y.atom (firsts ys)))) (same_equiv.symm x.atom y.atom ∙ e)
+    later true e found = or_left (same x.atom y.atom) (list_any (same x.atom) (atoms_in (others y.atom (firsts ys)))) (same_equiv.symm x.atom y.atom ∙ e)
     later false e found =
-        there_step (same x.atom y.atom) (list_any (same x.atom) (atoms_in (others y.atom (firsts ys)))) (any_others y.atom x.atom (firsts ys) e ∙ found)
+        or_right (same x.atom y.atom) (list_any (same x.atom) (atoms_in (others y.atom (firsts ys)))) (any_others y.atom x.atom (firsts ys) e ∙ found)
 
 pub used_in_table : (steps : List Step) (a : Named) → Among a (flat_map atoms_of steps) → list_any (same (defined a.atom)) (atoms_in (table steps)) ≡ true
 used_in_table steps a h =
@@ -115,16 +106,18 @@ pub firsts_front : (xs ys : List Named) → (more : List Named) × (firsts (xs +
 firsts_front xs [] = ([], ap firsts (append-nil xs) ∙ sym (append-nil (firsts xs)))
 firsts_front xs (y ∷ ys) =
     let one : List Named = unless_there (list_any (same y.atom) (atoms_in (firsts xs))) y in
-    let rest = firsts_front (xs ++ y ∷ []) ys in
-    (one ++ rest.0,
-    ap firsts (sym (append_assoc xs (y ∷ []) ys)) ∙ rest.1 ∙ ap (λ f. f ++ rest.0) (firsts_push xs y) ∙ append_assoc (firsts xs) one rest.0)
+    let rest = firsts_front (xs ++ y ∷ []) ys in (
+      one ++ rest.0,
+      ap firsts (sym (append_assoc xs (y ∷ []) ys)) ∙ rest.1 ∙ ap (λ f. f ++ rest.0) (firsts_push xs y) ∙ append_assoc (firsts xs) one rest.0,
+    )
 
 pub table_front : (steps later : List Step) → (more : List Atomic) × (atoms_in (table (steps ++ later)) ≡ atoms_in (table steps) ++ more)
 table_front steps later =
-    let front = firsts_front (uses steps) (uses later) in
-    (atoms_in front.0,
-    ap (λ us. atoms_in (firsts us)) (flat_map-append (λ step. map named_defined (atoms_of step)) steps later)
-    ∙ ap atoms_in front.1 ∙ map-append (λ (a : Named). a.atom) (table steps) front.0)
+    let front = firsts_front (uses steps) (uses later) in (
+      atoms_in front.0,
+      ap (λ us. atoms_in (firsts us)) (flat_map-append (λ step. map named_defined (atoms_of step)) steps later)
+          ∙ ap atoms_in front.1 ∙ map-append (λ (a : Named). a.atom) (table steps) front.0,
+    )
 
 pub stay : (steps later : List Step) → Stay steps later
 stay steps later =

@@ -6,6 +6,7 @@ use Rattle.std.specs.Prelude.{IfSome}
 use Rattle.std.specs.Option.{option_map, option_to_list}
 use Rattle.std.specs.List.{flat_map}
 use Rattle.dp_base.specs.Lists.{Each}
+use Rattle.dp_base.proofs.Lists.{Each-append}
 use Rattle.dp_domain.specs.Atoms.{Atomic}
 use Rattle.dp_lines.specs.Allowed.{IsAllowed, IsAllowedClaim, IsLiteral, IsNumber, is_label}
 use Rattle.dp_lines.specs.Spelling.{line_text}
@@ -18,7 +19,7 @@ use Rattle.dp_writer.specs.Steps.{Step, atoms_of, line_of, literals_in}
 use Rattle.dp_writer.specs.Steps.Step.{Inference, Nogood, Conclusion}
 use Rattle.dp_writer.specs.Numbering.{Defines, IsClaimLine, Writes, claim_literals, literals_by, new_lines, with_atoms}
 use Rattle.dp_writer.proofs.LiteralLemmas.{kept_literals, literals_allowed, with_atoms_front}
-use Rattle.dp_writer.proofs.OrderLemmas.{defines_append, each_append, with_atoms_append}
+use Rattle.dp_writer.proofs.OrderLemmas.{defines_append, with_atoms_append}
 
 -- the lines of the atoms, and then that of the step
 pub writes_from : (number : ℕ) (step : Step) (old new : List Atomic) (mid text : List ℕ) (line : Line) → Defines (atoms_of step) old new [] mid
@@ -30,7 +31,7 @@ writes_from number step old new mid text line defines spelled is allowed = recor
       ∙ ap (λ t. flat_map line_text (new_lines old (atoms_of step)) ++ t) (sym (append-nil (line_text line)))
       ∙ sym (flat_map-append line_text (new_lines old (atoms_of step)) (line ∷ []))
       ∙ ap (λ l. flat_map line_text (new_lines old (atoms_of step) ++ l ∷ [])) is;
-  allowed = each_append IsAllowed (new_lines old (atoms_of step)) (line_of (with_atoms old (atoms_of step)) number step ∷ []) defines.allowed (subst IsAllowed is allowed, tt);
+  allowed = Each-append IsAllowed (new_lines old (atoms_of step)) (line_of (with_atoms old (atoms_of step)) number step ∷ []) defines.allowed (subst IsAllowed is allowed, tt);
 }
 
 literals_whole : (table : List Atomic) (atoms : List Named) → literals_by table atoms ≡ literals_in (with_atoms table atoms) atoms

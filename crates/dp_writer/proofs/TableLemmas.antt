@@ -10,7 +10,7 @@ use Rattle.dp_writer.specs.Atoms.{Named, same, number_in}
 use Rattle.dp_writer.specs.Steps.{definition}
 use Rattle.dp_writer.specs.Numbering.{line_if_new, with_atom}
 
-absent_step : (b r : Bool) (n m : ℕ) → (r ≡ false → n ≡ m) → (b || r) ≡ false → cond (not b) (1 + n) 0 ≡ suc m
+pub absent_step : (b r : Bool) (n m : ℕ) → (r ≡ false → n ≡ m) → (b || r) ≡ false → cond (not b) (1 + n) 0 ≡ suc m
 absent_step true r n m rest none = absurd (true≢false none)
 absent_step false r n m rest none =
     let e : n ≡ m = rest none in

@@ -3,6 +3,7 @@ use Rattle.std.proofs.Common.{◌≡◌, ℕ, ◌+◌, List, [], ◌∷◌, ◌+
 use Rattle.std.proofs.lemmas.Grind.{flat_map-append}
 use Rattle.std.specs.List.{flat_map}
 use Rattle.dp_base.specs.Lists.{Each}
+use Rattle.dp_base.proofs.Lists.{Each-append}
 use Rattle.dp_domain.specs.Atoms.{Atomic}
 use Rattle.dp_lines.specs.Allowed.{IsAllowed}
 use Rattle.dp_lines.specs.Spelling.{line_text}
@@ -10,7 +11,6 @@ use Rattle.dp_writer.specs.Steps.{Step, atoms_of, counted, count_of, lines, line
 use Rattle.dp_writer.specs.Numbering.{Writes, step_lines, with_atoms}
 use Rattle.dp_writer.specs.Written.{Written, Adds}
 use Rattle.dp_writer.proofs.FirstLemmas.{atoms_after, lines_are, lines_push}
-use Rattle.dp_writer.proofs.OrderLemmas.{each_append}
 
 count_push : (steps : List Step) (step : Step) → count_of (steps ++ step ∷ []) ≡ count_of steps + counted step
 count_push [] step = omega arith
@@ -28,7 +28,7 @@ adds old new number step text writes numbered count spelled steps drained stands
       atoms = writes.table ∙ ap (λ t. with_atoms t (atoms_of step)) stands.atoms ∙ atoms_after steps step;
       count = count ∙ ap (λ n. n + counted step) stands.count ∙ sym (count_push steps step);
       lines = subst (Each IsAllowed) (sym whole)
-          (each_append IsAllowed (lines steps) (lines_of steps step) stands.lines (subst (Each IsAllowed) are writes.allowed));
+          (Each-append IsAllowed (lines steps) (lines_of steps step) stands.lines (subst (Each IsAllowed) are writes.allowed));
       text = ap (λ t. drained ++ t) spelled ∙ sym (append_assoc drained old.text text)
           ∙ (λ j. stands.text j ++ (writes.spelled ∙ ap (flat_map line_text) are) j)
           ∙ sym (flat_map-append line_text (lines steps) (lines_of steps step))

@@ -8,5 +8,4 @@ ghost use Rattle.dp_writer.specs.Steps.{Step};
 pub fn literals()
     ensures read { (steps : List Step) → AreRead steps }
     ensures stay { (steps : List Step) → (later : List Step) → Stay steps later }
-{
-}
+{}

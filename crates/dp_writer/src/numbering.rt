@@ -48,6 +48,7 @@ fn own_name(alloc: Global, problem: &Problem, var: VarId) -> Result<Name, Memory
     ensures name { IfOk result (λ name. name ≡ own_name problem.now var) }
     ensures spelled { IfOk result (λ name. is_name name ≡ true) }
 {
+    // What a problem keeps is known by a look at it: its names are names.
     let _goal = problem.goal();
     let name = problem.own_name(var);
     Ok(Name::new(name.bytes().to_vec(alloc)?))

@@ -15,12 +15,10 @@ use dp_domain::{Atom, Verdict};
 use dp_lines::{Claim, Line, Literals, Numbers};
 use dp_parts::Problem;
 use indexmap::IndexSet;
-use std::alloc::Global;
 
 /// The lines of an inference.
 pub fn inference_lines(
     atoms: &mut IndexSet<Key>,
-    alloc: Global,
     number: u64,
     problem: &Problem,
     premises: &[Atom],
@@ -37,6 +35,7 @@ pub fn inference_lines(
     ensures kept { take (length atoms.old.keys) atoms.new.keys ≡ atoms.old.keys }
     ensures writes { IfOk result (λ text. Writes number (inference problem.now premises.now consequent constraint label.now) atoms.old.keys atoms.new.keys text.items) }
 {
+    let alloc = *atoms.allocator();
     let mut text = Vec::new(alloc);
     let premises = literals(atoms, &mut text, problem, premises)?;
     let consequent = consequent_literal(atoms, &mut text, problem, consequent)?;
@@ -77,7 +76,6 @@ fn consequent_literal(
 /// The lines of a nogood.
 pub fn nogood_lines(
     atoms: &mut IndexSet<Key>,
-    alloc: Global,
     number: u64,
     problem: &Problem,
     denied: &[Atom],
@@ -90,6 +88,7 @@ pub fn nogood_lines(
     ensures kept { take (length atoms.old.keys) atoms.new.keys ≡ atoms.old.keys }
     ensures writes { IfOk result (λ text. Writes number (nogood problem.now denied.now hints.now) atoms.old.keys atoms.new.keys text.items) }
 {
+    let alloc = *atoms.allocator();
     let mut text = Vec::new(alloc);
     let denied = literals(atoms, &mut text, problem, denied)?;
     let line = Line::Nogood {
@@ -104,7 +103,6 @@ pub fn nogood_lines(
 /// The lines of a conclusion, which has no number.
 pub fn conclusion_lines(
     atoms: &mut IndexSet<Key>,
-    alloc: Global,
     problem: &Problem,
     claim: Verdict,
 ) -> Result<Vec<u8>, Memory>
@@ -113,7 +111,7 @@ pub fn conclusion_lines(
     ensures kept { take (length atoms.old.keys) atoms.new.keys ≡ atoms.old.keys }
     ensures writes { IfOk result (λ text. Writes 0 (conclusion problem.now claim) atoms.old.keys atoms.new.keys text.items) }
 {
-    let mut text = Vec::new(alloc);
+    let mut text = Vec::new(*atoms.allocator());
     let claim = claim_of(atoms, &mut text, problem, claim)?;
     push_line(&mut text, &Line::Conclude(claim))?;
     Ok(text)

@@ -67,12 +67,12 @@ impl Writer {
         ensures counted { IfOk result (λ n. self.new.count ≡ n) }
         ensures err { OnErr result (self.new ≡ self.old) }
     {
+        // What a problem keeps is known by a look at it: its constraints are few.
         let _goal = problem.goal();
         let number = next_number(self.count)?;
         let kept = self.atoms.len();
         let lines = inference_lines(
             &mut self.atoms,
-            *self.text.allocator(),
             number,
             problem,
             premises,
@@ -102,14 +102,7 @@ impl Writer {
     {
         let number = next_number(self.count)?;
         let kept = self.atoms.len();
-        let lines = nogood_lines(
-            &mut self.atoms,
-            *self.text.allocator(),
-            number,
-            problem,
-            atoms,
-            hints,
-        );
+        let lines = nogood_lines(&mut self.atoms, number, problem, atoms, hints);
         settle(&mut self.atoms, kept, &mut self.text, lines)?;
         self.count = number;
         Ok(number)
@@ -123,7 +116,7 @@ impl Writer {
         ensures err { OnErr result (self.new ≡ self.old) }
     {
         let kept = self.atoms.len();
-        let lines = conclusion_lines(&mut self.atoms, *self.text.allocator(), problem, claim);
+        let lines = conclusion_lines(&mut self.atoms, problem, claim);
         settle(&mut self.atoms, kept, &mut self.text, lines)
     }
 
