@@ -134,13 +134,19 @@ atoms_after steps step =
     with_fresh (atoms_in (table steps)) (atoms_of step)
     ∙ sym (ap atoms_in (table_push steps step) ∙ map-append (λ (a : Named). a.atom) (table steps) (fresh (atoms_in (table steps)) (atoms_of step)))
 
+new_is : (steps : List Step) (step : Step) → fresh (atoms_in (table steps)) (atoms_of step) ≡ new_atoms steps step
+new_is steps step =
+    sym (ap (drop (length (table steps))) (table_push steps step) ∙ drop-append_seam (table steps) (fresh (atoms_in (table steps)) (atoms_of step)))
+
+-- the table has the atoms that the step is the first to use behind the others
+pub table_new : (steps : List Step) (step : Step) → table (steps ++ step ∷ []) ≡ table steps ++ new_atoms steps step
+table_new steps step = table_push steps step ∙ ap (λ l. table steps ++ l) (new_is steps step)
+
 -- the lines of a step are those of its atoms in turn, and its own
 pub lines_are : (steps : List Step) (step : Step) → step_lines (atoms_in (table steps)) (count_of steps + 1) step ≡ lines_of steps step
 lines_are steps step =
-    let new : fresh (atoms_in (table steps)) (atoms_of step) ≡ new_atoms steps step =
-    sym (ap (drop (length (table steps))) (table_push steps step) ∙ drop-append_seam (table steps) (fresh (atoms_in (table steps)) (atoms_of step))) in
     let defined_lines : new_lines (atoms_in (table steps)) (atoms_of step) ≡ definitions (length (table steps)) (new_atoms steps step) =
-    lines_fresh (atoms_in (table steps)) (atoms_of step) ∙ (λ j. definitions (length-map (table steps) (λ (a : Named). a.atom) j) (new j)) in
+    lines_fresh (atoms_in (table steps)) (atoms_of step) ∙ (λ j. definitions (length-map (table steps) (λ (a : Named). a.atom) j) (new_is steps step j)) in
     λ j. defined_lines j ++ line_of (atoms_after steps step j) (count_of steps + 1) step ∷ []
 
 -- the lines of one step more stand behind those of the others

@@ -6,3 +6,4 @@ pub mod FirstLemmas
 pub mod WrittenLemmas
 pub mod ReadingLemmas
 pub mod TestProblem
+pub mod LogLemmas

@@ -111,13 +111,15 @@ firsts_front xs (y ∷ ys) =
       ap firsts (sym (append_assoc xs (y ∷ []) ys)) ∙ rest.1 ∙ ap (λ f. f ++ rest.0) (firsts_push xs y) ∙ append_assoc (firsts xs) one rest.0,
     )
 
+pub table_whole : (steps later : List Step) → (more : List Named) × (table (steps ++ later) ≡ table steps ++ more)
+table_whole steps later =
+    let front = firsts_front (uses steps) (uses later) in
+    (front.0, ap firsts (flat_map-append (λ step. map named_defined (atoms_of step)) steps later) ∙ front.1)
+
 pub table_front : (steps later : List Step) → (more : List Atomic) × (atoms_in (table (steps ++ later)) ≡ atoms_in (table steps) ++ more)
 table_front steps later =
-    let front = firsts_front (uses steps) (uses later) in (
-      atoms_in front.0,
-      ap (λ us. atoms_in (firsts us)) (flat_map-append (λ step. map named_defined (atoms_of step)) steps later)
-          ∙ ap atoms_in front.1 ∙ map-append (λ (a : Named). a.atom) (table steps) front.0,
-    )
+    let whole = table_whole steps later in
+    (atoms_in whole.0, ap atoms_in whole.1 ∙ map-append (λ (a : Named). a.atom) (table steps) whole.0)
 
 pub stay : (steps later : List Step) → Stay steps later
 stay steps later =

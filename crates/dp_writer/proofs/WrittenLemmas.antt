@@ -12,7 +12,7 @@ use Rattle.dp_writer.specs.Numbering.{Writes, step_lines, with_atoms}
 use Rattle.dp_writer.specs.Written.{Written, Adds}
 use Rattle.dp_writer.proofs.FirstLemmas.{atoms_after, lines_are, lines_push}
 
-count_push : (steps : List Step) (step : Step) → count_of (steps ++ step ∷ []) ≡ count_of steps + counted step
+pub count_push : (steps : List Step) (step : Step) → count_of (steps ++ step ∷ []) ≡ count_of steps + counted step
 count_push [] step = omega arith
 count_push (s ∷ steps) step = let e = count_push steps step in omega arith
 

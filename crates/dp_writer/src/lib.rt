@@ -7,7 +7,7 @@ mod numbering;
 mod step;
 mod writer;
 
-pub use laws::literals;
+pub use laws::{literals, order};
 pub use writer::Writer;
 
 #[cfg(test)]
