@@ -1,6 +1,7 @@
 -- The table of steps, with one step more.
 use Rattle.std.proofs.Common.{◌≡◌, ◌+◌, Bool, true, false, not, ◌||◌, List, [], ◌∷◌, ◌++◌, cond, map, filter, drop, length, sym, ap, ◌∙◌, refl, append_assoc}
 use Rattle.std.proofs.lemmas.List.{append-nil, map-append, length-append, length-map}
+use Rattle.std.proofs.lemmas.List.Elements.{filter-append}
 use Rattle.std.proofs.lemmas.Grind.{flat_map-append}
 use Rattle.std.proofs.Math.Seq.{drop-append_seam}
 use Rattle.std.specs.List.{list_any}
@@ -31,15 +32,6 @@ pub any_others : (a d : Atomic) (atoms : List Named) → same a d ≡ false → 
 any_others a d [] apart = refl
 any_others a d (y ∷ ys) apart = any_step a d y ys (others a ys) apart (same a y.atom) refl (any_others a d ys apart)
 
-others_append : (a : Atomic) (xs ys : List Named) → others a (xs ++ ys) ≡ others a xs ++ others a ys
-others_append a [] ys = refl
-others_append a (x ∷ xs) ys = here (same a x.atom) (others_append a xs ys)
-  where
-    here : (b : Bool) → others a (xs ++ ys) ≡ others a xs ++ others a ys
-        → cond (not b) (x ∷ others a (xs ++ ys)) (others a (xs ++ ys)) ≡ cond (not b) (x ∷ others a xs) (others a xs) ++ others a ys
-    here true e = e
-    here false e = ap (λ l. x ∷ l) e
-
 -- the atom, where no test says that it is there
 abbrev pub unless_there : Bool → Named → List Named
 unless_there b d = cond b [] (d ∷ [])
@@ -66,7 +58,7 @@ pub firsts_push : (xs : List Named) (d : Named) → firsts (xs ++ d ∷ []) ≡ 
 firsts_push [] d = refl
 firsts_push (x ∷ xs) d =
     ap (λ l. x ∷ others x.atom l) (firsts_push xs d)
-    ∙ ap (λ l. x ∷ l) (others_append x.atom (firsts xs) (unless_there (list_any (same d.atom) (atoms_in (firsts xs))) d))
+    ∙ ap (λ l. x ∷ l) (filter-append (λ b. not (same x.atom b.atom)) (firsts xs) (unless_there (list_any (same d.atom) (atoms_in (firsts xs))) d))
     ∙ ap (λ l. x ∷ (others x.atom (firsts xs) ++ l)) (last_step x.atom d (firsts xs) (same x.atom d.atom) refl)
 
 -- ---- the new atoms, one after another

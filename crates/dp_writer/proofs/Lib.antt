@@ -7,3 +7,4 @@ pub mod WrittenLemmas
 pub mod ReadingLemmas
 pub mod TestProblem
 pub mod LogLemmas
+pub mod NameLemmas

@@ -1,8 +1,8 @@
 -- The lines of a log, sorted into those that define atoms and the steps' own.
-use Rattle.std.proofs.Common.{◌≡◌, ℕ, suc, ◌+◌, Bool, true, false, not, Option, Some, None, List, [], ◌∷◌, ◌++◌, cond, filter, map, drop, length, sym, ap, ◌∙◌, subst, refl, append_assoc, inl, arith}
+use Rattle.std.proofs.Common.{◌≡◌, ℕ, suc, ◌+◌, Bool, true, not, Some, None, List, [], ◌∷◌, ◌++◌, filter, drop, length, sym, ap, ◌∙◌, refl, append_assoc, inl, arith}
 use Rattle.std.proofs.lemmas.List.{append-nil, length-append}
-use Rattle.std.proofs.Math.Seq.{drop-length, drop-append_seam}
-use Rattle.std.specs.Option.{option_map, option_to_list}
+use Rattle.std.proofs.lemmas.List.Elements.{filter-append}
+use Rattle.std.proofs.Math.Seq.{drop-append_seam}
 use Rattle.std.specs.List.{flat_map, list_any}
 use Rattle.dp_base.specs.Lists.{Among, Each}
 use Rattle.dp_base.proofs.Lists.{Among-append_right, Each-append_parts, Each-from_among}
@@ -10,26 +10,18 @@ use Rattle.dp_domain.specs.Atoms.{Atomic}
 use Rattle.dp_domain.proofs.ExplanationLaws.{Among-flat_map}
 use Rattle.dp_lines.specs.declared.line.Line.{Line}
 use Rattle.dp_lines.specs.declared.line.Line.TheVariants.{Inference as inference_line, Nogood as nogood_line, Conclude as conclusion_line}
-use Rattle.dp_lines.specs.declared.line.Claim.TheVariants.{Unsat, Bound}
+use Rattle.dp_lines.specs.declared.line.Claim.TheVariants.{Bound}
 use Rattle.dp_writer.specs.Atoms.{Named, same, defined, is_defined, signed_by, literal_in}
 use Rattle.dp_writer.specs.Steps.{Step, atoms_in, atoms_of, table, counted, count_of, definition, definitions, new_atoms, literals_in, line_of, lines_of, lines_after}
 use Rattle.dp_writer.specs.Steps.Step.{Inference, Nogood, Conclusion}
 use Rattle.dp_writer.specs.Logs.{is_definition, own_lines, IsInOrder}
 use Rattle.dp_writer.proofs.FirstLemmas.{table_new}
 use Rattle.dp_writer.proofs.LiteralLemmas.{kept_place}
-use Rattle.dp_writer.proofs.ReadingLemmas.{used_in_table, table_front, firsts_front, table_whole}
+use Rattle.dp_writer.proofs.ReadingLemmas.{used_in_table, table_front, table_whole}
 use Rattle.dp_writer.proofs.WrittenLemmas.{count_push}
 
 abbrev is_own : Line → Bool
 is_own line = not (is_definition line)
-
-filter_step : {A : Type 0} (b : Bool) (x : A) (l m n : List A) → l ≡ m ++ n → cond b (x ∷ l) l ≡ cond b (x ∷ m) m ++ n
-filter_step true x l m n e = ap (λ k. x ∷ k) e
-filter_step false x l m n e = e
-
-filter_append : {A : Type 0} (p : A → Bool) (xs ys : List A) → filter p (xs ++ ys) ≡ filter p xs ++ filter p ys
-filter_append p [] ys = refl
-filter_append p (x ∷ xs) ys = filter_step (p x) x (filter p (xs ++ ys)) (filter p xs) (filter p ys) (filter_append p xs ys)
 
 definitions_kept : (n : ℕ) (atoms : List Named) → filter is_definition (definitions n atoms) ≡ definitions n atoms
 definitions_kept n [] = refl
@@ -61,7 +53,7 @@ definitions_append n (x ∷ xs) ys =
 
 defined_of : (earlier : List Step) (step : Step) → filter is_definition (lines_of earlier step) ≡ definitions (length (table earlier)) (new_atoms earlier step)
 defined_of earlier step =
-    filter_append is_definition (definitions (length (table earlier)) (new_atoms earlier step)) (line_of (atoms_in (table (earlier ++ step ∷ []))) (count_of earlier + 1) step ∷ [])
+    filter-append is_definition (definitions (length (table earlier)) (new_atoms earlier step)) (line_of (atoms_in (table (earlier ++ step ∷ []))) (count_of earlier + 1) step ∷ [])
     ∙ (λ j. definitions_kept (length (table earlier)) (new_atoms earlier step) j ++ own_gone (atoms_in (table (earlier ++ step ∷ []))) (count_of earlier + 1) step j)
     ∙ append-nil (definitions (length (table earlier)) (new_atoms earlier step))
 
@@ -85,7 +77,7 @@ defined_after earlier (step ∷ steps) =
     let count : length (table next) ≡ length (table earlier) + length new = ap length (table_new earlier step) ∙ length-append (table earlier) new in
     let whole : table (earlier ++ step ∷ steps) ≡ table earlier ++ (new ++ more) =
     ap table (sym (append_assoc earlier (step ∷ []) steps)) ∙ front.1 ∙ ap (λ t. t ++ more) (table_new earlier step) ∙ append_assoc (table earlier) new more in
-    filter_append is_definition (lines_of earlier step) (lines_after next steps)
+    filter-append is_definition (lines_of earlier step) (lines_after next steps)
     ∙ (λ j. defined_of earlier step j ++ (rest ∙ ap (λ n. definitions n more) count) j)
     ∙ sym (definitions_append (length (table earlier)) new more)
     ∙ ap (definitions (length (table earlier))) (sym (behind_is earlier (step ∷ steps) (new ++ more) whole))
@@ -120,7 +112,7 @@ own_of : (earlier : List Step) (step : Step) (more : List Atomic)
     → filter is_own (lines_of earlier step) ≡ line_of (atoms_in (table (earlier ++ step ∷ [])) ++ more) (count_of earlier + 1) step ∷ []
 own_of earlier step more =
     let atoms : List Atomic = atoms_in (table (earlier ++ step ∷ [])) in
-    filter_append is_own (definitions (length (table earlier)) (new_atoms earlier step)) (line_of atoms (count_of earlier + 1) step ∷ [])
+    filter-append is_own (definitions (length (table earlier)) (new_atoms earlier step)) (line_of atoms (count_of earlier + 1) step ∷ [])
     ∙ (λ j. definitions_gone (length (table earlier)) (new_atoms earlier step) j ++ own_kept atoms (count_of earlier + 1) step j)
     ∙ ap (λ l. l ∷ []) (line_stays atoms more (count_of earlier + 1) step
     (Each-from_among (IsIn atoms) (atoms_of step) (λ a h. used_in_table (earlier ++ step ∷ []) a (last_used earlier step a h))))
@@ -134,7 +126,7 @@ own_after earlier (step ∷ steps) =
     sym front.1 ∙ ap (λ e. atoms_in (table e)) (append_assoc earlier (step ∷ []) steps) in
     let rest : filter is_own (lines_after next steps) ≡ own_lines (atoms_in (table (earlier ++ step ∷ steps))) (count_of earlier + counted step) steps =
     own_after next steps ∙ (λ j. own_lines ((front.1 ∙ whole) j) (count_push earlier step j) steps) in
-    filter_append is_own (lines_of earlier step) (lines_after next steps)
+    filter-append is_own (lines_of earlier step) (lines_after next steps)
     ∙ (λ j. (own_of earlier step front.0 ∙ ap (λ t. line_of t (count_of earlier + 1) step ∷ []) whole) j ++ rest j)
 
 pub in_order : (steps : List Step) → IsInOrder steps

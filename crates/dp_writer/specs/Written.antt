@@ -24,6 +24,10 @@ own_name p x = name_in (option_and_then (slice_get p.names) (slice_get p.own x))
 abbrev pub named : Csp → Atomic → Named
 named p a = record { name = own_name p a.var; atom = a }
 
+-- the atom stands under its variable's own name
+abbrev pub IsNamedIn : Csp → Named → Type 0
+IsNamedIn p a = a.name ≡ own_name p a.atom.var
+
 -- the atom's variable is one of the problem's
 abbrev pub IsOf : Csp → Atomic → Type 0
 IsOf p a = a.var < length p.initial
