@@ -48,25 +48,18 @@ fn push_fields(text: &mut Vec<u8>, line: &Line) -> Result<(), Memory>
             *constraint,
             label,
         ),
-        Line::Nogood {
-            id,
-            atoms,
-            hints,
-        } => push_nogood(text, *id, atoms.as_slice(), hints.as_slice()),
-        Line::Delete {
-            id,
-        } => push_deletion(text, *id),
+        Line::Nogood { id, atoms, hints } => push_nogood(
+            text,
+            *id,
+            atoms.as_slice(),
+            hints.as_slice(),
+        ),
+        Line::Delete { id } => push_deletion(text, *id),
         Line::Conclude(claim) => push_conclusion(text, *claim),
     }
 }
 
-fn push_atom(
-    text: &mut Vec<u8>,
-    id: u64,
-    name: &Name,
-    op: Op,
-    value: i64,
-) -> Result<(), Memory>
+fn push_atom(text: &mut Vec<u8>, id: u64, name: &Name, op: Op, value: i64) -> Result<(), Memory>
     ensures { OnOk result (text.new.items ≡ text.old.items ++ spelling.fields_text (Atom id name.now op value)) }
 {
     text.push(b'a')?;
@@ -226,3 +219,6 @@ fn push_number(text: &mut Vec<u8>, number: u64) -> Result<(), Memory>
     text.extend_from_slice(field.as_bytes())?;
     Ok(())
 }
+
+#[cfg(test)]
+mod tests;

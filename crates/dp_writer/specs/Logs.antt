@@ -13,7 +13,7 @@ is_definition (Nogood id atoms hints) = false
 is_definition (Delete id) = false
 is_definition (Conclude claim) = false
 
--- the own lines of steps, with numbers from n + 1 on, where this table has the numbers of atoms
+-- the own lines of steps, with numbers from n + 1 on, and with the literals by these defined atoms
 abbrev pub own_lines : List Atomic → ℕ → List Step → List Line
 own_lines atoms n [] = []
 own_lines atoms n (step ∷ steps) = line_of atoms (n + 1) step ∷ own_lines atoms (n + counted step) steps

@@ -58,21 +58,21 @@ abbrev pub definitions : ℕ → List Named → List Line
 definitions n [] = []
 definitions n (a ∷ atoms) = definition (n + 1) a ∷ definitions (n + 1) atoms
 
--- the literals of atoms, where this table has the numbers
+-- the literals of atoms, where these defined atoms have their places as numbers
 abbrev pub literals_in : List Atomic → List Named → List ℤ
-literals_in table atoms = map (λ a. literal_in table a.atom) atoms
+literals_in known atoms = map (λ a. literal_in known a.atom) atoms
 
 -- the line of a conclusion
 abbrev pub line_of_bound : List Atomic → Option Named → Line
-line_of_bound table None = conclusion_line Unsat
-line_of_bound table (Some bound) = conclusion_line (Bound (literal_in table bound.atom))
+line_of_bound known None = conclusion_line Unsat
+line_of_bound known (Some bound) = conclusion_line (Bound (literal_in known bound.atom))
 
--- the line of a step with this number, where this table has the numbers of atoms
+-- the line of a step with this number, and with the literals by these defined atoms
 abbrev pub line_of : List Atomic → ℕ → Step → Line
-line_of table number (Inference premises consequent constraint label) =
-    inference_line number (literals_in table premises) (option_map (λ a. literal_in table a.atom) consequent) (Some constraint) (Some label)
-line_of table number (Nogood atoms hints) = nogood_line number (literals_in table atoms) hints
-line_of table number (Conclusion bound) = line_of_bound table bound
+line_of known number (Inference premises consequent constraint label) =
+    inference_line number (literals_in known premises) (option_map (λ a. literal_in known a.atom) consequent) (Some constraint) (Some label)
+line_of known number (Nogood atoms hints) = nogood_line number (literals_in known atoms) hints
+line_of known number (Conclusion bound) = line_of_bound known bound
 
 -- the lines of a step after earlier steps: those of the atoms that it is the first to use, then its own
 abbrev pub lines_of : List Step → Step → List Line
