@@ -1,15 +1,7 @@
-//! Models: what is declared, what is required, and what is asked for.
+//! What a model consists of: what is declared, what is required, and what is asked for.
 
+use crate::{Args, Elements, Numbers, Ranges};
 use dp_base::Name;
-
-/// What the text declares, in order, then its constraints in order, then its goal. A thing that is named is given by its
-/// place in `items`, from 0. Predicates, comments and other annotations are not kept.
-#[derive(Debug, Drop)]
-pub struct Model {
-    pub items: Vec<Item>,
-    pub constraints: Vec<Constraint>,
-    pub goal: ModelGoal,
-}
 
 /// A declaration.
 #[derive(Debug, Drop)]
@@ -33,7 +25,7 @@ pub enum Item {
     Consts {
         name: Name,
         bools: bool,
-        elements: Vec<Basic>,
+        elements: Elements,
     },
     /// A variable or an alias. `var` counts the variables from 0, aliases not among them; an alias has its variable's number.
     Var {
@@ -47,8 +39,8 @@ pub enum Item {
     Vars {
         name: Name,
         kind: VarType,
-        output: Option<Vec<(i64, i64)>>,
-        elements: Vec<Basic>,
+        output: Option<Ranges>,
+        elements: Elements,
     },
 }
 
@@ -60,7 +52,7 @@ pub enum VarType {
     /// From the first number to the second; none, where the first is greater.
     Range(i64, i64),
     /// The numbers as they were listed.
-    List(Vec<i64>),
+    List(Numbers),
 }
 
 /// A set as it was written.
@@ -69,7 +61,7 @@ pub enum SetText {
     /// From the first number to the second; none, where the first is greater.
     Range(i64, i64),
     /// The numbers as they were listed.
-    List(Vec<i64>),
+    List(Numbers),
 }
 
 /// A literal, or the place of what is named.
@@ -85,14 +77,14 @@ pub enum Basic {
 pub enum Expr {
     Basic(Basic),
     Set(SetText),
-    Array(Vec<Basic>),
+    Array(Elements),
 }
 
 /// A constraint item.
 #[derive(Debug, Drop)]
 pub struct Constraint {
     pub name: Name,
-    pub args: Vec<Expr>,
+    pub args: Args,
 }
 
 /// What is asked for, a variable by its place in the items.

@@ -7,8 +7,8 @@ use Rattle.dp_grammar.specs.Brackets.{Plain, Opens, Closes, IsBracketing}
 use Rattle.dp_grammar.specs.Grammar.{IsLawful}
 use Rattle.dp_grammar.specs.Leaf.{IsOnly}
 use Rattle.dp_grammar.proofs.Leaves.{mark_lawful}
-use Rattle.fz_items.specs.Marks.{key_code, point_code, is_key, is_stop, is_open, is_close, keyword, stop, opens, closes}
-use Rattle.fz_items.specs.Words.{Bracket, Round, Square, Curly, Point, Comma, Semicolon, Colon, DoubleColon, Equals, DoubleDot, Word, Named, Key, Number, Float, Quoted, Stop, bracket_code, bracketing}
+use Rattle.fz_model.specs.Marks.{key_code, point_code, is_key, is_stop, is_open, is_close, keyword, stop, opens, closes}
+use Rattle.fz_model.specs.Words.{Bracket, Round, Square, Curly, Point, Comma, Semicolon, Colon, DoubleColon, Equals, DoubleDot, Word, Named, Key, Number, Float, Quoted, Stop, bracket_code, bracketing}
 
 -- ---- no two have one code
 

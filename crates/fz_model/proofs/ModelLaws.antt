@@ -7,21 +7,21 @@ use Rattle.dp_grammar.specs.Grammar.{IsLawful}
 use Rattle.dp_grammar.proofs.Chains.{chain_lawful, behind_mark_lawful, before_mark_lawful}
 use Rattle.dp_grammar.proofs.Choices.{either_lawful}
 use Rattle.dp_grammar.proofs.Manys.{many_lawful}
-use Rattle.fz_items.specs.Annotations.{Annotated, balanced, annotated}
-use Rattle.fz_items.specs.Arrays.{array_item}
-use Rattle.fz_items.specs.Constraints.{constraint_item}
-use Rattle.fz_items.specs.Context.{Context, known, goal_test, meant_by}
-use Rattle.fz_items.specs.Items.{IntText, SetWords, no_test, int_item, bool_item, set_item, variable_item}
-use Rattle.fz_items.specs.Literals.{name}
-use Rattle.fz_items.specs.Marks.{Production, is_key, is_stop, is_open, keyword, stop, opens}
-use Rattle.fz_items.specs.ModelText.{predicate_item, ArrayWords, VariableWords, ItemWords, item, begins_item, context_of, GoalWords, goal, solve_item, Rest, rest_of, model}
-use Rattle.fz_items.specs.Words.{Round, DoubleColon, Semicolon}
-use Rattle.fz_items.proofs.AnnotationLaws.{balanced_lawful, annotated_lawful}
-use Rattle.fz_items.proofs.ArrayLaws.{array_item_lawful}
-use Rattle.fz_items.proofs.ConstraintLaws.{constraint_item_lawful}
-use Rattle.fz_items.proofs.ItemLaws.{int_item_lawful, bool_item_lawful, set_item_lawful, variable_item_lawful}
-use Rattle.fz_items.proofs.LiteralLaws.{name_lawful}
-use Rattle.fz_items.proofs.MarkLaws.{keyword_lawful, stop_lawful, opens_lawful}
+use Rattle.fz_model.specs.Annotations.{Annotated, balanced, annotated}
+use Rattle.fz_model.specs.Arrays.{array_item}
+use Rattle.fz_model.specs.Constraints.{constraint_item}
+use Rattle.fz_model.specs.Context.{Context, known, goal_test, meant_by}
+use Rattle.fz_model.specs.Items.{IntText, SetWords, no_test, int_item, bool_item, set_item, variable_item}
+use Rattle.fz_model.specs.Literals.{name}
+use Rattle.fz_model.specs.Marks.{Production, is_key, is_stop, is_open, keyword, stop, opens}
+use Rattle.fz_model.specs.ModelText.{predicate_item, ArrayWords, VariableWords, ItemWords, item, begins_item, context_of, GoalWords, goal, solve_item, Rest, rest_of, model}
+use Rattle.fz_model.specs.Words.{Round, DoubleColon, Semicolon}
+use Rattle.fz_model.proofs.AnnotationLaws.{balanced_lawful, annotated_lawful}
+use Rattle.fz_model.proofs.ArrayLaws.{array_item_lawful}
+use Rattle.fz_model.proofs.ConstraintLaws.{constraint_item_lawful}
+use Rattle.fz_model.proofs.ItemLaws.{int_item_lawful, bool_item_lawful, set_item_lawful, variable_item_lawful}
+use Rattle.fz_model.proofs.LiteralLaws.{name_lawful}
+use Rattle.fz_model.proofs.MarkLaws.{keyword_lawful, stop_lawful, opens_lawful}
 
 predicate_lawful : IsLawful predicate_item
 predicate_lawful =

@@ -3,9 +3,9 @@
 ghost use Rattle.std.specs.Prelude.{◌≡◌, List, Result};
 ghost use Rattle.dp_grammar.specs.Grammar.{Cause};
 ghost use Rattle.dp_grammar.specs.Whole.{Says, whole};
-ghost use Rattle.fz_items.specs.Marks.{Fault};
-ghost use Rattle.fz_items.specs.ModelText.{ModelWords, model};
-ghost use Rattle.fz_items.specs.Words.{Word};
+ghost use Rattle.fz_model.specs.Marks.{Fault};
+ghost use Rattle.fz_model.specs.ModelText.{ModelWords, model};
+ghost use Rattle.fz_model.specs.Words.{Word};
 
 /// Of the words of any text the grammar says one thing, and reading answers it: the model that is spelled so and passes
 /// each test, or the first word that no model has there or that a test refuses.

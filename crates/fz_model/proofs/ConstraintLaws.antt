@@ -13,20 +13,20 @@ use Rattle.dp_grammar.proofs.Leaves.{leaf_lawful, tested_mark_lawful}
 use Rattle.dp_grammar.proofs.Chains.{chain_lawful, behind_mark_lawful}
 use Rattle.dp_grammar.proofs.Choices.{either_lawful}
 use Rattle.dp_grammar.proofs.Lists.{listed_lawful}
-use Rattle.fz_items.specs.Annotations.{annotated}
-use Rattle.fz_items.specs.Constraints.{wants_set, wants_array, element_test, argument_test, dotted_of, is_dotted, ArgText, ArgTruth, ArgWhole, ArgName, arg_of, arg_word, arg_basic, ArgWords, behind, set_arg, array_arg, range_arg, text_arg, argument, close_test, arguments, ConstraintWords, behind_constraints, kind_named, constraint_item}
-use Rattle.fz_items.specs.Context.{Context, BasicText, meaning, known, or_else, refuse_if, one_more, max_constraints}
-use Rattle.fz_items.specs.Items.{IntText, no_test, basic}
-use Rattle.fz_items.specs.Literals.{name, integer}
-use Rattle.fz_items.specs.Marks.{Fault, Unsupported, Kind, Limit, is_key, is_stop, is_open, is_close, stop, opens, closes}
-use Rattle.fz_items.specs.Table.{constraint_of, args_of}
-use Rattle.fz_items.specs.Words.{Bracket, Round, Square, Curly, Comma, Semicolon, DoubleDot, Word, Named, Key, Number, Float, Quoted, Stop}
-use Rattle.fz_items.specs.declared.kinds.ArgKind.{ArgKind}
-use Rattle.fz_items.specs.declared.kinds.ConstraintKind.{ConstraintKind}
-use Rattle.fz_items.proofs.AnnotationLaws.{annotated_lawful}
-use Rattle.fz_items.proofs.ItemLaws.{basic_lawful, basic_no_close}
-use Rattle.fz_items.proofs.LiteralLaws.{name_lawful, integer_lawful}
-use Rattle.fz_items.proofs.MarkLaws.{key_is_only, stop_is_only, open_is_only, close_is_only, stop_lawful, opens_lawful, closes_lawful}
+use Rattle.fz_model.specs.Annotations.{annotated}
+use Rattle.fz_model.specs.Constraints.{wants_set, wants_array, element_test, argument_test, dotted_of, is_dotted, ArgText, ArgTruth, ArgWhole, ArgName, arg_of, arg_word, arg_basic, ArgWords, behind, set_arg, array_arg, range_arg, text_arg, argument, close_test, arguments, ConstraintWords, behind_constraints, kind_named, constraint_item}
+use Rattle.fz_model.specs.Context.{Context, BasicText, meaning, known, or_else, refuse_if, one_more, max_constraints}
+use Rattle.fz_model.specs.Items.{IntText, no_test, basic}
+use Rattle.fz_model.specs.Literals.{name, integer}
+use Rattle.fz_model.specs.Marks.{Fault, Unsupported, Kind, Limit, is_key, is_stop, is_open, is_close, stop, opens, closes}
+use Rattle.fz_model.specs.Table.{constraint_of, args_of}
+use Rattle.fz_model.specs.Words.{Bracket, Round, Square, Curly, Comma, Semicolon, DoubleDot, Word, Named, Key, Number, Float, Quoted, Stop}
+use Rattle.fz_model.specs.declared.kinds.ArgKind.{ArgKind}
+use Rattle.fz_model.specs.declared.kinds.ConstraintKind.{ConstraintKind}
+use Rattle.fz_model.proofs.AnnotationLaws.{annotated_lawful}
+use Rattle.fz_model.proofs.ItemLaws.{basic_lawful, basic_no_close}
+use Rattle.fz_model.proofs.LiteralLaws.{name_lawful, integer_lawful}
+use Rattle.fz_model.proofs.MarkLaws.{key_is_only, stop_is_only, open_is_only, close_is_only, stop_lawful, opens_lawful, closes_lawful}
 
 -- ---- leaves
 

@@ -8,14 +8,14 @@ use Rattle.dp_grammar.specs.Choice.{either}
 use Rattle.dp_grammar.specs.Grammar.{Cause, Syntax, Test}
 use Rattle.dp_grammar.specs.Many.{many}
 use Rattle.dp_grammar.specs.Whole.{whole}
-use Rattle.fz_items.specs.Annotations.{Balanced, balanced, Annotated, annotated}
-use Rattle.fz_items.specs.Arrays.{array_item}
-use Rattle.fz_items.specs.Constraints.{ConstraintWords, constraint_item}
-use Rattle.fz_items.specs.Context.{Context, BasicText, Meant, IntConst, BoolConst, SetConst, IntVar, BoolVar, IntArray, BoolArray, meaning, known, goal_test, meant_by, with_elements}
-use Rattle.fz_items.specs.Items.{IntText, SetWords, TypeWords, no_test, int_item, bool_item, set_item, variable_item, is_bool_type, type_elements, set_elements}
-use Rattle.fz_items.specs.Literals.{name}
-use Rattle.fz_items.specs.Marks.{Fault, Unsupported, Production, is_key, keyword, stop, opens}
-use Rattle.fz_items.specs.Words.{Round, Square, Semicolon, Word, Float}
+use Rattle.fz_model.specs.Annotations.{Balanced, balanced, Annotated, annotated}
+use Rattle.fz_model.specs.Arrays.{array_item}
+use Rattle.fz_model.specs.Constraints.{ConstraintWords, constraint_item}
+use Rattle.fz_model.specs.Context.{Context, BasicText, Meant, IntConst, BoolConst, SetConst, IntVar, BoolVar, IntArray, BoolArray, meaning, known, goal_test, meant_by, with_elements}
+use Rattle.fz_model.specs.Items.{IntText, SetWords, TypeWords, no_test, int_item, bool_item, set_item, variable_item, is_bool_type, type_elements, set_elements}
+use Rattle.fz_model.specs.Literals.{name}
+use Rattle.fz_model.specs.Marks.{Fault, Unsupported, Production, is_key, keyword, stop, opens}
+use Rattle.fz_model.specs.Words.{Round, Square, Semicolon, Word, Float}
 
 -- ---- items
 

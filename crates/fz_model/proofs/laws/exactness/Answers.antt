@@ -1,8 +1,8 @@
 use Rattle.dp_grammar.proofs.Only.{only_says}
 use Rattle.dp_grammar.proofs.Wholes.{whole_says}
-use Rattle.fz_items.specs.ModelText.{model}
-use Rattle.fz_items.proofs.ModelLaws.{model_lawful}
-use Rattle.fz_items.proofs.laws.exactness.Goals as goal
+use Rattle.fz_model.specs.ModelText.{model}
+use Rattle.fz_model.proofs.ModelLaws.{model_lawful}
+use Rattle.fz_model.proofs.laws.exactness.Goals as goal
 
 pub returns-clause-says : goal.returns-clause-says
 returns-clause-says c = λ words. whole_says model model_lawful words

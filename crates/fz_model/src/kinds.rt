@@ -1,7 +1,7 @@
 //! The constraints of the profile: their names, and what their arguments are.
 
 ghost use Rattle.std.specs.Prelude.{◌≡◌};
-ghost use Rattle.fz_items.specs.Table as spec;
+ghost use Rattle.fz_model.specs.Table as spec;
 
 /// A constraint that has a meaning.
 #[derive(Clone, Copy, Debug, PartialEq, Eq)]

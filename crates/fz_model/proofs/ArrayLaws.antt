@@ -10,17 +10,17 @@ use Rattle.dp_grammar.specs.Leaf.{tested_mark}
 use Rattle.dp_grammar.proofs.Leaves.{leaf_lawful, tested_mark_lawful}
 use Rattle.dp_grammar.proofs.Chains.{chain_lawful, behind_mark_lawful, before_mark_lawful}
 use Rattle.dp_grammar.proofs.Choices.{either_lawful}
-use Rattle.fz_items.specs.Annotations.{Annotation, Annotated, annotated}
-use Rattle.fz_items.specs.Arrays.{is_one, one_word, one, array_size, size_test, constant_element, variable_element, notes_test, is_bools, constants, elements_end, variables, array_item}
-use Rattle.fz_items.specs.Context.{Context, BasicText, fresh, beyond_small, with_elements}
-use Rattle.fz_items.specs.Items.{IntText, TypeWords, no_test, array_literal, parameter, domain_test, type_elements}
-use Rattle.fz_items.specs.Literals.{name, integer, var_type}
-use Rattle.fz_items.specs.Marks.{is_key, is_stop, keyword, stop, opens, closes}
-use Rattle.fz_items.specs.Words.{Square, Semicolon, Colon, Equals, DoubleDot, Word, Named, Key, Number, Float, Quoted, Stop}
-use Rattle.fz_items.proofs.AnnotationLaws.{annotated_lawful}
-use Rattle.fz_items.proofs.ItemLaws.{array_literal_lawful, parameter_lawful}
-use Rattle.fz_items.proofs.LiteralLaws.{name_lawful, integer_lawful, var_type_lawful}
-use Rattle.fz_items.proofs.MarkLaws.{stop_is_only, keyword_lawful, stop_lawful, opens_lawful, closes_lawful}
+use Rattle.fz_model.specs.Annotations.{Annotation, Annotated, annotated}
+use Rattle.fz_model.specs.Arrays.{is_one, one_word, one, array_size, size_test, constant_element, variable_element, notes_test, is_bools, constants, elements_end, variables, array_item}
+use Rattle.fz_model.specs.Context.{Context, BasicText, fresh, beyond_small, with_elements}
+use Rattle.fz_model.specs.Items.{IntText, TypeWords, no_test, array_literal, parameter, domain_test, type_elements}
+use Rattle.fz_model.specs.Literals.{name, integer, var_type}
+use Rattle.fz_model.specs.Marks.{is_key, is_stop, keyword, stop, opens, closes}
+use Rattle.fz_model.specs.Words.{Square, Semicolon, Colon, Equals, DoubleDot, Word, Named, Key, Number, Float, Quoted, Stop}
+use Rattle.fz_model.proofs.AnnotationLaws.{annotated_lawful}
+use Rattle.fz_model.proofs.ItemLaws.{array_literal_lawful, parameter_lawful}
+use Rattle.fz_model.proofs.LiteralLaws.{name_lawful, integer_lawful, var_type_lawful}
+use Rattle.fz_model.proofs.MarkLaws.{stop_is_only, keyword_lawful, stop_lawful, opens_lawful, closes_lawful}
 
 both_not : (a b : Bool) → not a && not b ≡ true → (a ≡ false) × (b ≡ false)
 both_not false false e = (refl, refl)

@@ -11,12 +11,12 @@ use Rattle.dp_grammar.specs.Grammar.{Cause}
 use Rattle.dp_grammar.specs.Leaf.{leaf, tested_mark}
 use Rattle.dp_grammar.specs.Listed.{listed}
 use Rattle.dp_grammar.specs.Whole.{whole}
-use Rattle.fz_items.specs.Annotations.{Balanced, Annotation, Annotated, annotated}
-use Rattle.fz_items.specs.Context.{Context, BasicText, Meant, meaning, known, or_else, refuse_if, one_more, fresh, int_test, bool_test, const_test, bool_const_test, beyond_small, with_elements}
-use Rattle.fz_items.specs.Items.{IntText, SetWords, TypeWords, no_test, array_literal, parameter, domain_test, type_elements}
-use Rattle.fz_items.specs.Literals.{name, integer, range, var_type}
-use Rattle.fz_items.specs.Marks.{Fault, Kind, Production, is_key, is_stop, is_close, keyword, stop, opens, closes}
-use Rattle.fz_items.specs.Words.{Round, Square, Comma, Semicolon, Colon, DoubleDot, Equals, Word, Number, Stop, bracketing}
+use Rattle.fz_model.specs.Annotations.{Balanced, Annotation, Annotated, annotated}
+use Rattle.fz_model.specs.Context.{Context, BasicText, Meant, meaning, known, or_else, refuse_if, one_more, fresh, int_test, bool_test, const_test, bool_const_test, beyond_small, with_elements}
+use Rattle.fz_model.specs.Items.{IntText, SetWords, TypeWords, no_test, array_literal, parameter, domain_test, type_elements}
+use Rattle.fz_model.specs.Literals.{name, integer, range, var_type}
+use Rattle.fz_model.specs.Marks.{Fault, Kind, Production, is_key, is_stop, is_close, keyword, stop, opens, closes}
+use Rattle.fz_model.specs.Words.{Round, Square, Comma, Semicolon, Colon, DoubleDot, Equals, Word, Number, Stop, bracketing}
 
 -- ---- the number of elements
 

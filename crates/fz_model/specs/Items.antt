@@ -7,11 +7,11 @@ use Rattle.dp_grammar.specs.Chain.{chain, behind_mark, before_mark}
 use Rattle.dp_grammar.specs.Choice.{either}
 use Rattle.dp_grammar.specs.Leaf.{leaf, tested_mark}
 use Rattle.dp_grammar.specs.Listed.{listed}
-use Rattle.fz_items.specs.Annotations.{Annotated, annotated}
-use Rattle.fz_items.specs.Context.{Context, BasicText, Truth, Whole, Name, meaning, known, or_else, refuse_if, one_more, fresh, fresh_variable, beyond_small, int_test, bool_test}
-use Rattle.fz_items.specs.Literals.{name, integer, set_literal, var_type}
-use Rattle.fz_items.specs.Marks.{Fault, Unbounded, Production, is_stop, is_close, keyword, stop, opens}
-use Rattle.fz_items.specs.Words.{Square, Comma, Semicolon, Colon, Equals, Word, Named, Key, Number, Stop}
+use Rattle.fz_model.specs.Annotations.{Annotated, annotated}
+use Rattle.fz_model.specs.Context.{Context, BasicText, Truth, Whole, Name, meaning, known, or_else, refuse_if, one_more, fresh, fresh_variable, beyond_small, int_test, bool_test}
+use Rattle.fz_model.specs.Literals.{name, integer, set_literal, var_type}
+use Rattle.fz_model.specs.Marks.{Fault, Unbounded, Production, is_stop, is_close, keyword, stop, opens}
+use Rattle.fz_model.specs.Words.{Square, Comma, Semicolon, Colon, Equals, Word, Named, Key, Number, Stop}
 
 -- a number, and whether `..` follows it
 abbrev pub IntText : Type 0

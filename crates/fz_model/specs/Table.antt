@@ -1,9 +1,9 @@
 -- The table of constraints: their names, and what their arguments are.
 use Rattle.std.specs.Prelude.{ℕ, List, [], ◌∷◌, length, find, bytes_eq, codes, Option}
-use Rattle.fz_items.specs.declared.kinds.ArgKind.{ArgKind}
-use Rattle.fz_items.specs.declared.kinds.ArgKind.TheVariants as arg
-use Rattle.fz_items.specs.declared.kinds.ConstraintKind.{ConstraintKind}
-use Rattle.fz_items.specs.declared.kinds.ConstraintKind.TheVariants as of
+use Rattle.fz_model.specs.declared.kinds.ArgKind.{ArgKind}
+use Rattle.fz_model.specs.declared.kinds.ArgKind.TheVariants as arg
+use Rattle.fz_model.specs.declared.kinds.ConstraintKind.{ConstraintKind}
+use Rattle.fz_model.specs.declared.kinds.ConstraintKind.TheVariants as of
 
 abbrev pub constraint_name : ConstraintKind → List ℕ
 constraint_name of.IntLinLe = codes "int_lin_le"

@@ -5,9 +5,9 @@ use Rattle.dp_grammar.specs.Brackets.{Inside, inside}
 use Rattle.dp_grammar.specs.Chain.{chain, behind_mark, shaped}
 use Rattle.dp_grammar.specs.Choice.{either}
 use Rattle.dp_grammar.specs.Many.{Link, links}
-use Rattle.fz_items.specs.Literals.{name}
-use Rattle.fz_items.specs.Marks.{Fault, Production, is_stop, is_open, stop, opens}
-use Rattle.fz_items.specs.Words.{Bracket, Round, DoubleColon, Word, PlainWord, bracketing}
+use Rattle.fz_model.specs.Literals.{name}
+use Rattle.fz_model.specs.Marks.{Fault, Production, is_stop, is_open, stop, opens}
+use Rattle.fz_model.specs.Words.{Bracket, Round, DoubleColon, Word, PlainWord, bracketing}
 
 -- what stands in round brackets that are open
 abbrev pub Balanced : Type 0

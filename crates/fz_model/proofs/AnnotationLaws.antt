@@ -8,12 +8,12 @@ use Rattle.dp_grammar.proofs.Bracketings.{inside_lawful}
 use Rattle.dp_grammar.proofs.Chains.{chain_lawful, behind_mark_lawful, shaped_lawful}
 use Rattle.dp_grammar.proofs.Choices.{either_lawful}
 use Rattle.dp_grammar.proofs.Manys.{links_lawful}
-use Rattle.fz_items.specs.Annotations.{Balanced, balanced, Annotation, Tail, tail, LinkParts, link_parts, with_tail, link_of, parts_with, parts_of, Close, annotation_link, annotated}
-use Rattle.fz_items.specs.Literals.{name}
-use Rattle.fz_items.specs.Marks.{Fault, is_stop, is_open, stop, opens}
-use Rattle.fz_items.specs.Words.{Round, DoubleColon, bracketing}
-use Rattle.fz_items.proofs.MarkLaws.{stop_lawful, opens_lawful, is_bracketing}
-use Rattle.fz_items.proofs.LiteralLaws.{name_lawful}
+use Rattle.fz_model.specs.Annotations.{Balanced, balanced, Annotation, Tail, tail, LinkParts, link_parts, with_tail, link_of, parts_with, parts_of, Close, annotation_link, annotated}
+use Rattle.fz_model.specs.Literals.{name}
+use Rattle.fz_model.specs.Marks.{Fault, is_stop, is_open, stop, opens}
+use Rattle.fz_model.specs.Words.{Round, DoubleColon, bracketing}
+use Rattle.fz_model.proofs.MarkLaws.{stop_lawful, opens_lawful, is_bracketing}
+use Rattle.fz_model.proofs.LiteralLaws.{name_lawful}
 
 -- what may close annotations: it begins with neither `::` nor `(`
 pub record IsClose {C : Type 0} (close : Close C) : Type 0 where

@@ -3,10 +3,14 @@
 
 mod kinds;
 mod laws;
+mod lists;
 mod model;
 #[cfg(test)]
 mod tests;
+mod whole;
 
 pub use kinds::{ArgKind, ConstraintKind};
 pub use laws::exactness;
-pub use model::{Basic, Constraint, Expr, Item, Model, ModelGoal, SetText, VarType};
+pub use lists::{Args, Elements, Numbers, Ranges};
+pub use model::{Basic, Constraint, Expr, Item, ModelGoal, SetText, VarType};
+pub use whole::Model;

@@ -8,3 +8,4 @@ pub mod Marks
 pub mod ModelText
 pub mod Table
 pub mod Words
+pub mod Models
