@@ -10,7 +10,8 @@ use Rattle.dp_grammar.proofs.Choices.{either_lawful}
 use Rattle.dp_grammar.proofs.Manys.{links_lawful}
 use Rattle.fz_model.specs.Annotations.{Balanced, balanced, Annotation, Tail, tail, LinkParts, link_parts, with_tail, link_of, parts_with, parts_of, Close, annotation_link, annotated}
 use Rattle.fz_model.specs.Literals.{name}
-use Rattle.fz_model.specs.Marks.{Fault, is_stop, is_open, stop, opens}
+use Rattle.fz_model.specs.Marks.{is_stop, is_open, stop, opens}
+use Rattle.fz_model.specs.declared.fault.Fault.{Fault}
 use Rattle.fz_model.specs.Words.{Round, DoubleColon, bracketing}
 use Rattle.fz_model.proofs.MarkLaws.{stop_lawful, opens_lawful, is_bracketing}
 use Rattle.fz_model.proofs.LiteralLaws.{name_lawful}

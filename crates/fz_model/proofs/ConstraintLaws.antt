@@ -18,7 +18,9 @@ use Rattle.fz_model.specs.Constraints.{wants_set, wants_array, element_test, arg
 use Rattle.fz_model.specs.Context.{Context, BasicText, meaning, known, or_else, refuse_if, one_more, max_constraints}
 use Rattle.fz_model.specs.Items.{IntText, no_test, basic}
 use Rattle.fz_model.specs.Literals.{name, integer}
-use Rattle.fz_model.specs.Marks.{Fault, Unsupported, Kind, Limit, is_key, is_stop, is_open, is_close, stop, opens, closes}
+use Rattle.fz_model.specs.Marks.{is_key, is_stop, is_open, is_close, stop, opens, closes}
+use Rattle.fz_model.specs.declared.fault.Fault.{Fault}
+use Rattle.fz_model.specs.declared.fault.Fault.TheVariants.{Unsupported, Kind, Limit}
 use Rattle.fz_model.specs.Table.{constraint_of, args_of}
 use Rattle.fz_model.specs.Words.{Bracket, Round, Square, Curly, Comma, Semicolon, DoubleDot, Word, Named, Key, Number, Float, Quoted, Stop}
 use Rattle.fz_model.specs.declared.kinds.ArgKind.{ArgKind}

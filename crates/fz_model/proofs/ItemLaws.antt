@@ -16,7 +16,9 @@ use Rattle.fz_model.specs.Annotations.{annotated}
 use Rattle.fz_model.specs.Context.{beyond_small, Context, BasicText, Truth, Whole, Name, refuse_if, fresh, fresh_variable, one_more}
 use Rattle.fz_model.specs.Items.{TypeWords, no_test, basic_of, basic_word, basic, truth_of, truth, array_literal, defined, parameter, int_item, bool_item, set_item, domain_test, is_int_type, definition_test, variable_end, variable_item}
 use Rattle.fz_model.specs.Literals.{name, integer, set_literal, var_type}
-use Rattle.fz_model.specs.Marks.{Fault, Unbounded, Production, is_stop, is_open, is_close, keyword, stop, opens}
+use Rattle.fz_model.specs.Marks.{Production, is_stop, is_open, is_close, keyword, stop, opens}
+use Rattle.fz_model.specs.declared.fault.Fault.{Fault}
+use Rattle.fz_model.specs.declared.fault.Fault.TheVariants.{Unbounded}
 use Rattle.fz_model.specs.Words.{Bracket, Round, Square, Comma, Semicolon, Colon, DoubleColon, Equals, Word, Named, Key, Number, Float, Quoted, Stop}
 use Rattle.fz_model.proofs.AnnotationLaws.{annotated_lawful}
 use Rattle.fz_model.proofs.LiteralLaws.{name_lawful, integer_lawful, set_literal_lawful, var_type_lawful}

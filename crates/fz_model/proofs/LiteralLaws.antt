@@ -12,7 +12,8 @@ use Rattle.dp_grammar.proofs.Chains.{chain_lawful, behind_mark_lawful}
 use Rattle.dp_grammar.proofs.Choices.{either_lawful}
 use Rattle.dp_grammar.proofs.Lists.{listed_lawful}
 use Rattle.fz_model.specs.Literals.{name_of, name, integer_of, integer, range, numbers, set_literal, var_type}
-use Rattle.fz_model.specs.Marks.{Fault, is_key, is_stop, is_open, is_close, keyword, stop, opens, closes}
+use Rattle.fz_model.specs.Marks.{is_key, is_stop, is_open, is_close, keyword, stop, opens, closes}
+use Rattle.fz_model.specs.declared.fault.Fault.{Fault}
 use Rattle.fz_model.specs.Words.{Curly, Comma, DoubleDot, Word, Named, Key, Number, Float, Quoted, Stop}
 use Rattle.fz_model.proofs.MarkLaws.{stop_is_only, keyword_lawful, stop_lawful, opens_lawful, closes_lawful}
 

@@ -6,7 +6,8 @@ use Rattle.dp_grammar.specs.Chain.{chain, behind_mark, shaped}
 use Rattle.dp_grammar.specs.Choice.{either}
 use Rattle.dp_grammar.specs.Many.{Link, links}
 use Rattle.fz_model.specs.Literals.{name}
-use Rattle.fz_model.specs.Marks.{Fault, Production, is_stop, is_open, stop, opens}
+use Rattle.fz_model.specs.Marks.{Production, is_stop, is_open, stop, opens}
+use Rattle.fz_model.specs.declared.fault.Fault.{Fault}
 use Rattle.fz_model.specs.Words.{Bracket, Round, DoubleColon, Word, PlainWord, bracketing}
 
 -- what stands in round brackets that are open

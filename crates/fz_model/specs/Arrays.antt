@@ -15,7 +15,9 @@ use Rattle.fz_model.specs.Annotations.{Balanced, Annotation, Annotated, annotate
 use Rattle.fz_model.specs.Context.{Context, BasicText, Meant, meaning, known, or_else, refuse_if, one_more, fresh, int_test, bool_test, const_test, bool_const_test, beyond_small, with_elements}
 use Rattle.fz_model.specs.Items.{IntText, SetWords, TypeWords, no_test, array_literal, parameter, domain_test, type_elements}
 use Rattle.fz_model.specs.Literals.{name, integer, range, var_type}
-use Rattle.fz_model.specs.Marks.{Fault, Kind, Production, is_key, is_stop, is_close, keyword, stop, opens, closes}
+use Rattle.fz_model.specs.Marks.{Production, is_key, is_stop, is_close, keyword, stop, opens, closes}
+use Rattle.fz_model.specs.declared.fault.Fault.{Fault}
+use Rattle.fz_model.specs.declared.fault.Fault.TheVariants.{Kind}
 use Rattle.fz_model.specs.Words.{Round, Square, Comma, Semicolon, Colon, DoubleDot, Equals, Word, Number, Stop, bracketing}
 
 -- ---- the number of elements

@@ -13,7 +13,9 @@ use Rattle.fz_model.specs.Annotations.{Annotated, annotated}
 use Rattle.fz_model.specs.Context.{Context, BasicText, Truth, Whole, Name, Meant, IntConst, SetConst, IntVar, IntArray, BoolArray, meaning, known, or_else, refuse_if, one_more, int_test, bool_test, const_test, bool_const_test, beyond_small, small, max_constraints}
 use Rattle.fz_model.specs.Items.{IntText, no_test, basic}
 use Rattle.fz_model.specs.Literals.{name, integer}
-use Rattle.fz_model.specs.Marks.{Fault, Unsupported, Kind, Limit, Production, is_key, is_stop, is_open, is_close, stop, opens, closes}
+use Rattle.fz_model.specs.Marks.{Production, is_key, is_stop, is_open, is_close, stop, opens, closes}
+use Rattle.fz_model.specs.declared.fault.Fault.{Fault}
+use Rattle.fz_model.specs.declared.fault.Fault.TheVariants.{Unsupported, Kind, Limit}
 use Rattle.fz_model.specs.Table.{constraint_of, args_of, least_args}
 use Rattle.fz_model.specs.Words.{Round, Square, Curly, Comma, Semicolon, DoubleDot, Word, Named, Key, Number, Stop}
 use Rattle.fz_model.specs.declared.kinds.ArgKind.{ArgKind}

@@ -1,7 +1,8 @@
 -- What the items before a word declare, and the tests of names and literals that look at it.
 use Rattle.std.specs.Prelude.{ℕ, ◌+◌, Bool, true, false, nat_lt, nat_le, List, find, bytes_eq, Option, Some, None, ℤ, nat_abs}
 use Rattle.std.specs.Option.{option_map_or}
-use Rattle.fz_model.specs.Marks.{Fault, Unsupported, Unknown, Declared, Kind, Limit}
+use Rattle.fz_model.specs.declared.fault.Fault.{Fault}
+use Rattle.fz_model.specs.declared.fault.Fault.TheVariants.{Unsupported, Unknown, Declared, Kind, Limit}
 
 -- what a name stands for; an array by whether it is a parameter, and by its elements, None for a variable
 pub data Meant : Type 0 where

@@ -10,7 +10,9 @@ use Rattle.dp_grammar.specs.Listed.{listed}
 use Rattle.fz_model.specs.Annotations.{Annotated, annotated}
 use Rattle.fz_model.specs.Context.{Context, BasicText, Truth, Whole, Name, meaning, known, or_else, refuse_if, one_more, fresh, fresh_variable, beyond_small, int_test, bool_test}
 use Rattle.fz_model.specs.Literals.{name, integer, set_literal, var_type}
-use Rattle.fz_model.specs.Marks.{Fault, Unbounded, Production, is_stop, is_close, keyword, stop, opens}
+use Rattle.fz_model.specs.Marks.{Production, is_stop, is_close, keyword, stop, opens}
+use Rattle.fz_model.specs.declared.fault.Fault.{Fault}
+use Rattle.fz_model.specs.declared.fault.Fault.TheVariants.{Unbounded}
 use Rattle.fz_model.specs.Words.{Square, Comma, Semicolon, Colon, Equals, Word, Named, Key, Number, Stop}
 
 -- a number, and whether `..` follows it

@@ -6,7 +6,8 @@ use Rattle.dp_grammar.specs.Chain.{chain, behind_mark}
 use Rattle.dp_grammar.specs.Choice.{either}
 use Rattle.dp_grammar.specs.Leaf.{leaf}
 use Rattle.dp_grammar.specs.Listed.{listed}
-use Rattle.fz_model.specs.Marks.{Fault, Production, is_key, is_stop, is_open, is_close, keyword, stop, opens, closes}
+use Rattle.fz_model.specs.Marks.{Production, is_key, is_stop, is_open, is_close, keyword, stop, opens, closes}
+use Rattle.fz_model.specs.declared.fault.Fault.{Fault}
 use Rattle.fz_model.specs.Words.{Curly, Comma, DoubleDot, Word, Named, Number, Stop}
 
 abbrev pub name_of : Word → Option (List ℕ)

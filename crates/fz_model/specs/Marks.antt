@@ -5,16 +5,8 @@ use Rattle.fz_token.specs.declared.Keyword.TheVariants as key
 use Rattle.dp_grammar.specs.Brackets.{Plain, Opens, Closes}
 use Rattle.dp_grammar.specs.Grammar.{Grammar}
 use Rattle.dp_grammar.specs.Leaf.{mark}
+use Rattle.fz_model.specs.declared.fault.Fault.{Fault}
 use Rattle.fz_model.specs.Words.{Bracket, Point, Comma, Semicolon, Colon, DoubleColon, Equals, DoubleDot, Word, Key, Stop, bracket_code}
-
--- The tests of a text, in the order in which they refuse one word.
-pub data Fault : Type 0 where
-  Unsupported : Fault
-  Unbounded : Fault
-  Unknown : Fault
-  Declared : Fault
-  Kind : Fault
-  Limit : Fault
 
 abbrev pub Production : Type 0 → Type 0
 Production X = Grammar Word Fault X

@@ -14,7 +14,9 @@ use Rattle.fz_model.specs.Constraints.{ConstraintWords, constraint_item}
 use Rattle.fz_model.specs.Context.{Context, BasicText, Meant, IntConst, BoolConst, SetConst, IntVar, BoolVar, IntArray, BoolArray, meaning, known, goal_test, meant_by, with_elements}
 use Rattle.fz_model.specs.Items.{IntText, SetWords, TypeWords, no_test, int_item, bool_item, set_item, variable_item, is_bool_type, type_elements, set_elements}
 use Rattle.fz_model.specs.Literals.{name}
-use Rattle.fz_model.specs.Marks.{Fault, Unsupported, Production, is_key, keyword, stop, opens}
+use Rattle.fz_model.specs.Marks.{Production, is_key, keyword, stop, opens}
+use Rattle.fz_model.specs.declared.fault.Fault.{Fault}
+use Rattle.fz_model.specs.declared.fault.Fault.TheVariants.{Unsupported}
 use Rattle.fz_model.specs.Words.{Round, Square, Semicolon, Word, Float}
 
 -- ---- items

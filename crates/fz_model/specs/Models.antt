@@ -11,7 +11,7 @@ use Rattle.fz_model.specs.Arrays.{is_bools, output_ranges}
 use Rattle.fz_model.specs.Constraints.{ArgText, ArgWords, ConstraintWords, arg_basic}
 use Rattle.fz_model.specs.Context.{BasicText, Truth, Whole, Name}
 use Rattle.fz_model.specs.Items.{IntText, SetWords, TypeWords}
-use Rattle.fz_model.specs.Marks.{Fault}
+use Rattle.fz_model.specs.declared.fault.Fault.{Fault}
 use Rattle.fz_model.specs.ModelText.{ArrayWords, GoalWords, ItemWords, ModelWords, VariableWords, closing, model}
 use Rattle.fz_model.specs.Words.{Round, Word, bracketing}
 use Rattle.fz_model.specs.declared.model.Basic.{Basic}

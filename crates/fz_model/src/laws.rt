@@ -3,7 +3,7 @@
 ghost use Rattle.std.specs.Prelude.{◌≡◌, List, Result};
 ghost use Rattle.dp_grammar.specs.Grammar.{Cause};
 ghost use Rattle.dp_grammar.specs.Whole.{Says, whole};
-ghost use Rattle.fz_model.specs.Marks.{Fault};
+ghost use Rattle.fz_model.specs.declared.fault.Fault.{Fault};
 ghost use Rattle.fz_model.specs.ModelText.{ModelWords, model};
 ghost use Rattle.fz_model.specs.Words.{Word};
 

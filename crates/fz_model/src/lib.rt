@@ -1,6 +1,7 @@
 //! The items of FlatZinc text, integer profile: what a model consists of, and the table of its constraints.
 #![tactic(auto)]
 
+mod fault;
 mod kinds;
 mod laws;
 mod lists;
@@ -9,6 +10,7 @@ mod model;
 mod tests;
 mod whole;
 
+pub use fault::Fault;
 pub use kinds::{ArgKind, ConstraintKind};
 pub use laws::exactness;
 pub use lists::{Args, Elements, Numbers, Ranges};
