@@ -44,10 +44,14 @@ name_of_item (item.Consts name bools elements) = name
 name_of_item (item.Var name kind output value var) = name
 name_of_item (item.Vars name kind output elements) = name
 
--- how many items stand before the one of this name
+-- how many names stand before this one
+abbrev pub place_among : List (List ℕ) → List ℕ → ℕ
+place_among [] name = 0
+place_among (n ∷ names) name = if bytes_eq name n then 0 else suc (place_among names name)
+
+-- the place of the item of this name
 abbrev pub place_of : List Item → List ℕ → ℕ
-place_of [] name = 0
-place_of (i ∷ items) name = if bytes_eq (name_of_item i) name then 0 else suc (place_of items name)
+place_of items name = place_among (map name_of_item items) name
 
 -- ---- literals and names where a value is wanted
 
