@@ -1,8 +1,7 @@
 -- Constraints, with the tests of their names and arguments.
-use Rattle.std.specs.Prelude.{ℕ, ◌+◌, ◌==◌, Bool, true, false, not, ◌||◌, ◌&&◌, nat_lt, nat_le, ◌⊎◌, List, [], ◌∷◌, length, map, sum, Option, Some, None, unwrap_or, is_none, ℤ, pos, nat_abs, slice_get}
+use Rattle.std.specs.Prelude.{ℕ, ◌+◌, ◌==◌, Bool, true, false, not, ◌&&◌, nat_lt, nat_le, ◌⊎◌, List, [], ◌∷◌, length, map, sum, Option, Some, None, unwrap_or, is_none, ℤ, slice_get}
 use Rattle.std.proofs.Common.{inl, inr}
 use Rattle.std.specs.List.{list_any, list_all, filter_map}
-use Rattle.std.specs.Int.Signed.{lt_z}
 use Rattle.fz_token.specs.declared.Keyword.TheVariants as key
 use Rattle.dp_grammar.specs.Brackets.{Plain, Opens, Closes}
 use Rattle.dp_grammar.specs.Chain.{chain, behind_mark}
@@ -11,7 +10,7 @@ use Rattle.dp_grammar.specs.Leaf.{leaf, tested_mark}
 use Rattle.dp_grammar.specs.Listed.{listed}
 use Rattle.fz_model.specs.Annotations.{Annotated, annotated}
 use Rattle.fz_model.specs.Context.{Context, BasicText, Truth, Whole, Name, meaning, known, one_more, int_test, bool_test, const_test, bool_const_test}
-use Rattle.fz_model.specs.Limits.{or_else, refuse_if, beyond_small, small, max_constraints, no_test, amount_limit, each_test}
+use Rattle.fz_model.specs.Limits.{or_else, refuse_if, beyond_small, max_constraints, no_test, amount_limit, each_test}
 use Rattle.fz_model.specs.declared.meant.Meant.{Meant}
 use Rattle.fz_model.specs.declared.meant.Meant.TheVariants.{IntConst, SetConst, IntVar, IntArray, BoolArray}
 use Rattle.fz_model.specs.Items.{IntText, basic}

@@ -1,5 +1,5 @@
 -- What the items before a word declare, and the tests of names and literals that look at it.
-use Rattle.std.specs.Prelude.{ℕ, ◌+◌, Bool, true, false, nat_lt, nat_le, List, bytes_eq, Option, Some, None, ℤ, nat_abs}
+use Rattle.std.specs.Prelude.{ℕ, ◌+◌, Bool, true, nat_le, List, bytes_eq, Option, Some, None, ℤ}
 use Rattle.std.specs.Map.{lookup}
 use Rattle.std.specs.Option.{option_map_or}
 use Rattle.fz_model.specs.Limits.{max_elements, max_variables, refuse_if, or_else}

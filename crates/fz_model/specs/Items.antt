@@ -9,7 +9,7 @@ use Rattle.dp_grammar.specs.Leaf.{leaf, tested_mark}
 use Rattle.dp_grammar.specs.Listed.{listed}
 use Rattle.fz_model.specs.Annotations.{Annotated, annotated}
 use Rattle.fz_model.specs.Context.{Context, BasicText, Truth, Whole, Name, meaning, known, one_more, fresh, fresh_variable, int_test, bool_test}
-use Rattle.fz_model.specs.Limits.{or_else, refuse_if, beyond_small, small, no_test}
+use Rattle.fz_model.specs.Limits.{or_else, refuse_if, beyond_small, no_test}
 use Rattle.fz_model.specs.Literals.{name, integer, set_literal, var_type}
 use Rattle.fz_model.specs.Marks.{Production, is_stop, is_close, keyword, stop, opens}
 use Rattle.fz_model.specs.declared.fault.Fault.{Fault}
