@@ -27,7 +27,7 @@ pub fn any_selectable(index: &Term, array: &[Term], value: &Term, state: &State)
     ensures { result ≡ any_selectable (record { index = index.now; array = array.now; value = value.now }) state.now }
 {
     for (place, entry) in array.iter().enumerate() {
-        if is_selectable(*index, place, *entry, *value, state) {
+        if is_selectable(index, place, entry, value, state) {
             return true;
         }
     }
@@ -35,14 +35,14 @@ pub fn any_selectable(index: &Term, array: &[Term], value: &Term, state: &State)
 }
 
 /// Whether the entry at the place can be selected.
-fn is_selectable(index: Term, place: usize, entry: Term, value: Term, state: &State) -> bool
+fn is_selectable(index: &Term, place: usize, entry: &Term, value: &Term, state: &State) -> bool
     requires few { place + 1 < 2 ^ 63 }
-    requires index { IsTermOf (length state.now) index }
-    requires entry { IsTermOf (length state.now) entry }
-    requires value { IsTermOf (length state.now) value }
-    ensures { result ≡ is_selectable state.now index value (place + 1, entry) }
+    requires index { IsTermOf (length state.now) index.now }
+    requires entry { IsTermOf (length state.now) entry.now }
+    requires value { IsTermOf (length state.now) value.now }
+    ensures { result ≡ is_selectable state.now index.now value.now (place + 1, entry.now) }
 {
-    may_be_at(index, place, state) && entry.shares(state, value)
+    may_be_at(*index, place, state) && entry.shares(state, *value)
 }
 
 /// Whether the index may be the number of the entry at the place.
