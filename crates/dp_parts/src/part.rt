@@ -7,6 +7,7 @@ ghost use Rattle.dp_parts.specs.PartLaws.{part_deciding, part_exact, part_lawful
 
 use dp_domain::{Atom, Found, Memory, Rule, State, Steps, Test, VarId};
 use dp_rule_clause::{Nogood, Within};
+use dp_rule_element::Element;
 use dp_rule_linear::{LinLe, LinNe};
 use std::marker::Model;
 use std::sync::ledger::Ledger;
@@ -18,6 +19,7 @@ pub enum Part {
     LinNe(LinNe),
     Nogood(Nogood),
     Within(Within),
+    Element(Element),
 }
 
 impl Test for Part {
@@ -33,6 +35,7 @@ impl Test for Part {
             Part::LinNe(part) => part.scope_len(),
             Part::Nogood(part) => part.scope_len(),
             Part::Within(part) => part.scope_len(),
+            Part::Element(part) => part.scope_len(),
         }
     }
 
@@ -42,6 +45,7 @@ impl Test for Part {
             Part::LinNe(part) => part.scope_at(place),
             Part::Nogood(part) => part.scope_at(place),
             Part::Within(part) => part.scope_at(place),
+            Part::Element(part) => part.scope_at(place),
         }
     }
 
@@ -51,6 +55,7 @@ impl Test for Part {
             Part::LinNe(part) => part.is_point(var, value),
             Part::Nogood(part) => part.is_point(var, value),
             Part::Within(part) => part.is_point(var, value),
+            Part::Element(part) => part.is_point(var, value),
         }
     }
 
@@ -60,6 +65,7 @@ impl Test for Part {
             Part::LinNe(part) => part.clash(state),
             Part::Nogood(part) => part.clash(state),
             Part::Within(part) => part.clash(state),
+            Part::Element(part) => part.clash(state),
         }
     }
 
@@ -83,6 +89,7 @@ impl Rule for Part {
             Part::LinNe(part) => part.next(state, steps),
             Part::Nogood(part) => part.next(state, steps),
             Part::Within(part) => part.next(state, steps),
+            Part::Element(part) => part.next(state, steps),
         }
     }
 
@@ -97,6 +104,7 @@ impl Rule for Part {
             Part::LinNe(part) => part.explain(initial, now, target),
             Part::Nogood(part) => part.explain(initial, now, target),
             Part::Within(part) => part.explain(initial, now, target),
+            Part::Element(part) => part.explain(initial, now, target),
         }
     }
 }
@@ -110,6 +118,7 @@ pub fn label(part: &Part) -> &'static str
         Part::LinNe(_) => "not_equal",
         Part::Nogood(_) => "clause",
         Part::Within(_) => "domain",
+        Part::Element(_) => "element",
     }
 }
 
