@@ -1,0 +1,4 @@
+pub mod GivenLaws
+pub mod MadeSteps
+pub mod RefusalLaws
+pub mod UsageSteps
