@@ -1,10 +1,10 @@
 -- A schedule shows what it was made of.
-use Rattle.std.specs.Prelude.{◌≡◌, ℕ, suc, ◌+◌, ◌<◌, List, [], ◌∷◌, length, map, unsigned_abs, ℤ, pos, negsuc}
+use Rattle.std.specs.Prelude.{◌≡◌, suc, List, [], ◌∷◌, length, map, unsigned_abs, ℤ, pos, negsuc}
 use Rattle.std.specs.List.{zip}
-use Rattle.std.proofs.Common.{refl, ◌∙◌, ap, arith}
+use Rattle.std.proofs.Common.{refl, arith}
 use Rattle.std.proofs.lemmas.Int.{ints}
 use Rattle.dp_domain.specs.declared.term.Term.{Term}
-use Rattle.dp_rule_cumulative.specs.Refusals.{AreGood, IsAllowed, IsGoodAt, IsProper}
+use Rattle.dp_rule_cumulative.specs.Refusals.{AreGood, IsAllowed, IsProper}
 use Rattle.dp_rule_cumulative.specs.Schedules.{Given, schedule_of, starts, task_of}
 use Rattle.dp_rule_cumulative.specs.declared.task.Task.{Task}
 use Rattle.dp_rule_cumulative.proofs.MadeSteps.{starts_made}

@@ -2,7 +2,7 @@
 use Rattle.std.proofs.Common.{◌≡◌, ℕ, ◌+◌, ◌<◌, ◌≤◌, List, [], ◌∷◌, ◌++◌, length, get_or, map, take, ℤ, pos, refl, sym, ◌∙◌, ap, arith}
 use Rattle.std.specs.Prelude.{unsigned_abs}
 use Rattle.std.specs.List.{zip}
-use Rattle.std.proofs.lemmas.List.{get_or-map, length-map, take_all, take_more}
+use Rattle.std.proofs.lemmas.List.{get_or-map, take_all, take_more}
 use Rattle.std.proofs.lemmas.Slice.Zip.{get_or-zip, length-zip}
 use Rattle.dp_domain.specs.declared.term.Term.{Term}
 use Rattle.dp_rule_cumulative.specs.Schedules.{starts, task_of}
@@ -49,10 +49,12 @@ made_more ss ds us i ks s d u e f h k so_far =
 task_by : (s : Term) (d u : ℤ) (m n : ℕ) → m ≡ unsigned_abs d → n ≡ unsigned_abs u → task s m n ≡ task_of (s, (d, u))
 task_by s d u m n e f = cc
 
-pub made_push : (ss : List Term) (ds us : List ℤ) (i : ℕ) (ks : List Task) (s : Term) (m n : ℕ) → length ds ≡ length ss → length us ≡ length ss → i < length ss → s ≡ get_or ss i s → ks ≡ take i (made ss ds us)
-    → m ≡ unsigned_abs (get_or ds i (pos 0)) → n ≡ unsigned_abs (get_or us i (pos 0)) → ks ++ task s m n ∷ [] ≡ take (i + 1) (made ss ds us)
-made_push ss ds us i ks s m n e f h k so_far duration usage =
-    ap (λ (j : Task). ks ++ j ∷ []) (task_by s (get_or ds i (pos 0)) (get_or us i (pos 0)) m n duration usage)
+-- one more, as it is pushed
+pub made_push : (ss : List Term) (ds us : List ℤ) (i : ℕ) (ks js : List Task) (s : Term) (m n : ℕ) → length ds ≡ length ss → length us ≡ length ss → i < length ss → s ≡ get_or ss i s → ks ≡ take i (made ss ds us)
+    → m ≡ unsigned_abs (get_or ds i (pos 0)) → n ≡ unsigned_abs (get_or us i (pos 0)) → js ≡ ks ++ task s m n ∷ [] → js ≡ take (i + 1) (made ss ds us)
+made_push ss ds us i ks js s m n e f h k so_far duration usage pushed =
+    pushed
+    ∙ ap (λ (j : Task). ks ++ j ∷ []) (task_by s (get_or ds i (pos 0)) (get_or us i (pos 0)) m n duration usage)
     ∙ made_more ss ds us i ks s (pos 0) (pos 0) e f h k so_far
 
 -- all of them

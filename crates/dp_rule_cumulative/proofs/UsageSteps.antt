@@ -1,15 +1,14 @@
 -- What the loops over tasks add up.
-use Rattle.std.proofs.Common.{◌≡◌, ℕ, suc, ◌+◌, ◌*◌, ◌^◌, ◌<◌, ◌≤◌, Bool, true, false, cond, List, [], ◌∷◌, length, get_or, map, take, drop, ℤ, refl, sym, ◌∙◌, ap, subst, arith}
+use Rattle.std.proofs.Common.{◌≡◌, ℕ, ◌+◌, ◌*◌, ◌^◌, ◌<◌, ◌≤◌, Bool, List, [], ◌∷◌, length, get_or, take, drop, refl, sym, ◌∙◌, ap, subst, arith}
 use Rattle.std.specs.Prelude.{◌||◌}
 use Rattle.std.specs.List.{filter, list_any, sum_by}
 use Rattle.std.proofs.lemmas.List.{drop_more, take_all}
 use Rattle.std.proofs.lemmas.List.Elements.{filter_more}
 use Rattle.std.proofs.lemmas.List.Sums.{sum_by-append}
-use Rattle.dp_base.specs.Lists.{Among, Each}
+use Rattle.dp_base.specs.Lists.{Among}
 use Rattle.dp_base.proofs.Lists.{Among-get_or, Each-among}
 use Rattle.dp_domain.proofs.ExplanationLaws.{Among-map}
 use Rattle.dp_domain.specs.Terms.{AreTermsOf, IsTermOf}
-use Rattle.dp_domain.specs.declared.term.Term.{Term}
 use Rattle.dp_rule_cumulative.specs.Schedules.{starts, usage_of}
 use Rattle.dp_rule_cumulative.specs.UsageLaws.{usage}
 use Rattle.dp_rule_cumulative.specs.declared.task.Task.{Task}

@@ -42,7 +42,7 @@ pub record IsProper (g : Given) : Type 0 where
 -- the refusal is the first in order that applies; memory is wanted only for what is proper
 abbrev pub IsRefused : TaskRefusal → Given → Type 0
 IsRefused BadLength g = ¬ (AreEven g)
-IsRefused TooMany g = AreEven g × (¬ (AreFew g))
+IsRefused TooMany g = AreEven g × (2000000 < length g.starts)
 IsRefused (BadTask k) g = AreEven g × AreFew g × IsFirstBad g.durations g.uses k
 IsRefused BadCapacity g = AreEven g × AreFew g × AreGood g.durations g.uses × (¬ (IsAllowed g.capacity))
 IsRefused (Memory m) g = IsProper g

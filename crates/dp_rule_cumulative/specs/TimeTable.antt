@@ -1,5 +1,5 @@
 -- The time-table of a schedule: at no time is more used than there is.
-use Rattle.std.specs.Prelude.{◌≡◌, ℕ, ◌<◌, ◌≤◌, nat_lt, Bool, true, false, ◌||◌, ◌⊎◌, List, ℤ}
+use Rattle.std.specs.Prelude.{◌≡◌, ℕ, ◌<◌, ◌≤◌, nat_lt, Bool, true, false, ◌&&◌, ◌||◌, ◌⊎◌, List, ℤ}
 use Rattle.std.specs.List.{list_any}
 use Rattle.dp_domain.specs.Faces.{Face}
 use Rattle.dp_domain.specs.States.{Domains, is_dead}
@@ -18,11 +18,15 @@ ClashesCumulative q d = (is_dead d ≡ true) ⊎ ((t : ℤ) × (q.capacity < usa
 abbrev pub is_overloaded : ℕ → List Task → Domains → ℤ → Bool
 is_overloaded capacity tasks d t = nat_lt capacity (usage_of (must_run d t) tasks)
 
--- whether they do at the latest start of some task
-abbrev pub has_overload : ℕ → List Task → Domains → Bool
-has_overload capacity tasks d = list_any (λ k. is_overloaded capacity tasks d (latest_start d k)) tasks
+-- whether the task must run from its latest start on, and they do then
+abbrev pub starts_overload : ℕ → List Task → Domains → Task → Bool
+starts_overload capacity tasks d k = must_run d (latest_start d k) k && is_overloaded capacity tasks d (latest_start d k)
 
--- the same as a test
+-- whether some task is such
+abbrev pub has_overload : ℕ → List Task → Domains → Bool
+has_overload capacity tasks d = list_any (starts_overload capacity tasks d) tasks
+
+-- the clash as a test: of all times the latest starts alone are tried
 abbrev pub test_cumulative : Schedule → Domains → Bool
 test_cumulative q d = is_dead d || has_overload q.capacity q.tasks d
 

@@ -1,7 +1,7 @@
 -- The laws of a time-table.
-use Rattle.std.specs.Prelude.{◌≡◌, ℕ, ◌<◌, ◌≤◌, nat_lt, Bool, true, false, ◌||◌, ◌⊎◌, ◌↔◌, length, ℤ}
+use Rattle.std.specs.Prelude.{◌≡◌, ℕ, ◌<◌, ◌≤◌, nat_lt, Bool, true, false, ◌⊎◌, ◌↔◌, length, ℤ}
 use Rattle.std.proofs.Common.{refl, sym, ◌∙◌, subst, inl, inr, arith}
-use Rattle.std.proofs.lemmas.Bool.{both_ways, cases_lt, false_from_ne_true, or_cases, or_left, or_right}
+use Rattle.std.proofs.lemmas.Bool.{and_from, and_parts, both_ways, cases_lt, false_from_ne_true, or_cases, or_left, or_right}
 use Rattle.std.proofs.lemmas.Bool.Decides.{nat_tests, same_from_decides}
 use Rattle.dp_base.specs.Lists.{Among}
 use Rattle.dp_base.proofs.Lists.{list_any-at, list_any-some, Among-filter_only}
@@ -12,8 +12,8 @@ use Rattle.dp_domain.specs.Terms.{IsTermOf, term_variables}
 use Rattle.dp_domain.proofs.StateLaws.{LiesIn-alive, dead-within}
 use Rattle.dp_domain.proofs.TermLaws.{term_covered}
 use Rattle.dp_rule_cumulative.specs.Schedules.{Schedule, latest_start, must_run, runs_at, scope_of, starts, usage_of}
-use Rattle.dp_rule_cumulative.specs.TimeTable.{ClashesCumulative, MeetsCumulative, face_cumulative, has_overload, is_overloaded, test_cumulative}
-use Rattle.dp_rule_cumulative.specs.UsageLaws.{greatest_in_use, latest-enough, must_run-fixed, must_run-local, must_run-sound, must_run-within, start_in_scope, usage-le}
+use Rattle.dp_rule_cumulative.specs.TimeTable.{ClashesCumulative, MeetsCumulative, face_cumulative, has_overload, is_overloaded, starts_overload, test_cumulative}
+use Rattle.dp_rule_cumulative.specs.UsageLaws.{greatest_in_use, latest-enough, latest-runs, must_run-fixed, must_run-local, must_run-sound, must_run-within, start_in_scope, usage-le}
 use Rattle.dp_rule_cumulative.specs.declared.task.Task.{Task}
 
 over : (m n : ℕ) → nat_lt m n ≡ true → m < n
@@ -25,16 +25,19 @@ over_test m n h = grind (arith, nat_tests)
 clashes_where : (q : Schedule) (d : Domains) → test_cumulative q d ≡ true → ClashesCumulative q d
 clashes_where q d e = elim (or_cases (is_dead d) (has_overload q.capacity q.tasks d) e) [
   | inl dead ↦ inl dead
-  | inr some ↦ let k = list_any-some (λ (k : Task). is_overloaded q.capacity q.tasks d (latest_start d k)) q.tasks some in inr (latest_start d k.0, over q.capacity (usage_of (must_run d (latest_start d k.0)) q.tasks) k.2)
+  | inr some ↦ let k = list_any-some (starts_overload q.capacity q.tasks d) q.tasks some in
+      let both = and_parts (must_run d (latest_start d k.0) k.0) (is_overloaded q.capacity q.tasks d (latest_start d k.0)) k.2 in
+      inr (latest_start d k.0, over q.capacity (usage_of (must_run d (latest_start d k.0)) q.tasks) both.1)
 ]
 
--- if at any time too much is used, it is so at some task's latest start
+-- if too much is used at any time, it is so at the latest start of a task that must run then
 overloaded_at_start : (q : Schedule) (d : Domains) (t : ℤ) → q.capacity < usage_of (must_run d t) q.tasks → has_overload q.capacity q.tasks d ≡ true
 overloaded_at_start q d t h =
     let k = greatest_in_use (latest_start d) (must_run d t) q.tasks (omega arith) in
     let more = latest-enough d t q.tasks k.0 k.1 in
-    list_any-at (λ (k : Task). is_overloaded q.capacity q.tasks d (latest_start d k)) q.tasks k.0 (Among-filter_only (must_run d t) q.tasks k.0 k.1.here).0
-    (over_test q.capacity (usage_of (must_run d (latest_start d k.0)) q.tasks) (omega arith))
+    list_any-at (starts_overload q.capacity q.tasks d) q.tasks k.0 (Among-filter_only (must_run d t) q.tasks k.0 k.1.here).0
+    (and_from (must_run d (latest_start d k.0) k.0) (is_overloaded q.capacity q.tasks d (latest_start d k.0))
+    (latest-runs d t q.tasks k.0 k.1) (over_test q.capacity (usage_of (must_run d (latest_start d k.0)) q.tasks) (omega arith)))
 
 true_where : (q : Schedule) (d : Domains) → ClashesCumulative q d → test_cumulative q d ≡ true
 true_where q d clashes = elim clashes [
@@ -56,14 +59,20 @@ monotone : (q : Schedule) (d e : Domains) → Covers (scope_of q) d → IsWithin
 monotone q d e covers within clashes true dead = inl dead
 monotone q d e covers within (inl gone) false alive = absurd (both_ways (is_dead e) alive (dead-within d e within gone))
 monotone q d e covers within (inr over) false alive =
-    inr (over.0, later q.capacity _ _ over.1 (usage-le (must_run d over.0) (must_run e over.0) q.tasks (λ k here runs.
-    must_run-within d e over.0 k within alive (subst (λ (n : ℕ). IsTermOf n k.start) (sym within.count) (covered q d k covers here)) runs)))
+    inr (
+      over.0,
+      later q.capacity _ _ over.1 (usage-le (must_run d over.0) (must_run e over.0) q.tasks (λ k here runs.
+          must_run-within d e over.0 k within alive (subst (λ (n : ℕ). IsTermOf n k.start) (sym within.count) (covered q d k covers here)) runs)),
+    )
 
 carried : (q : Schedule) (d e : Domains) → is_dead d ≡ false → AgreesOn (scope_of q) d e → ClashesCumulative q d → ClashesCumulative q e
 carried q d e alive agrees (inl dead) = absurd (both_ways (is_dead d) alive dead)
 carried q d e alive agrees (inr over) =
-    inr (over.0, later q.capacity _ _ over.1 (usage-le (must_run d over.0) (must_run e over.0) q.tasks (λ k here runs.
-    sym (must_run-local (scope_of q) d e over.0 k agrees (start_in_scope q.tasks k here)) ∙ runs)))
+    inr (
+      over.0,
+      later q.capacity _ _ over.1 (usage-le (must_run d over.0) (must_run e over.0) q.tasks (λ k here runs.
+          sym (must_run-local (scope_of q) d e over.0 k agrees (start_in_scope q.tasks k here)) ∙ runs)),
+    )
 
 local : (q : Schedule) (d e : Domains) → is_dead d ≡ false → is_dead e ≡ false → AgreesOn (scope_of q) d e → test_cumulative q d ≡ test_cumulative q e
 local q d e alive alive' agrees =

@@ -1,13 +1,13 @@
 -- How much tasks use, at states and assignments.
-use Rattle.std.specs.Prelude.{◌≡◌, ℕ, ◌+◌, ◌<◌, ◌≤◌, Bool, true, false, ◌&&◌, cond, ◌⊎◌, unwrap_or, List, [], ◌∷◌, length, ℤ, pos, ◌+ℤ◌, ◌≤ℤ◌, ◌<ℤ◌, int_le, int_lt}
-use Rattle.std.proofs.Common.{refl, sym, ◌∙◌, ap, subst, inl, inr, arith}
+use Rattle.std.specs.Prelude.{◌≡◌, ℕ, ◌+◌, ◌<◌, ◌≤◌, Bool, true, false, cond, ◌⊎◌, unwrap_or, List, [], ◌∷◌, length, ℤ, pos, ◌+ℤ◌, ◌≤ℤ◌, ◌<ℤ◌, int_le, int_lt}
+use Rattle.std.proofs.Common.{refl, sym, ap, subst, inl, inr, arith}
 use Rattle.std.proofs.lemmas.Int.{ints}
 use Rattle.std.proofs.lemmas.Bool.{and_parts, and_from, false≢true}
 use Rattle.std.proofs.lemmas.List.Sums.{sum_by-cons}
 use Rattle.std.specs.List.{filter, sum_by}
 use Rattle.dp_base.specs.Lists.{Among}
-use Rattle.dp_base.proofs.Lists.{Among-filter_only, Among-filter_all, Each-among}
-use Rattle.dp_domain.specs.Faces.{AgreesOn, Covers, Fixes}
+use Rattle.dp_base.proofs.Lists.{Among-filter_only, Among-filter_all}
+use Rattle.dp_domain.specs.Faces.{AgreesOn, Fixes}
 use Rattle.dp_domain.specs.Sets.{greatest, least}
 use Rattle.dp_domain.specs.States.{Domains, IsWithin, LiesIn, is_dead}
 use Rattle.dp_domain.specs.Terms.{IsTermOf, term_at, term_scope, term_values}
@@ -16,7 +16,7 @@ use Rattle.dp_domain.specs.declared.term.Term.TheVariants.{Var, Const}
 use Rattle.dp_domain.proofs.ExplanationLaws.{Among-map}
 use Rattle.dp_domain.proofs.SetLaws.{greatest_from-among, greatest_from-bound, least_from-among, least_from-bound}
 use Rattle.dp_domain.proofs.StateLaws.{alive-value}
-use Rattle.dp_domain.proofs.TermLaws.{IsInScope, term_covered, term_in_scope, term_values-fixed, term_values-local, term_values-sound, term_values-within}
+use Rattle.dp_domain.proofs.TermLaws.{IsInScope, term_in_scope, term_values-fixed, term_values-local, term_values-sound, term_values-within}
 use Rattle.dp_rule_cumulative.specs.Schedules.{earliest_end, is_during, latest_start, must_run, runs_at, starts, usage_of}
 use Rattle.dp_rule_cumulative.specs.declared.task.Task.{Task}
 
@@ -125,6 +125,15 @@ latest-enough d t ks k g = usage-le (must_run d t) (must_run d (latest_start d k
   where
     earlier : (a b t e : ℤ) → a ≤ℤ b → b ≤ℤ t → t <ℤ e → is_during a e b ≡ true
     earlier a b t e h k l = during_from a e b h (omega (arith, ints))
+
+-- and the task with that start is one of them
+pub latest-runs : (d : Domains) (t : ℤ) (ks : List Task) (k : Task) → IsGreatest (latest_start d) (filter (must_run d t) ks) k → must_run d (latest_start d k) k ≡ true
+latest-runs d t ks k g =
+    let its = during_parts (latest_start d k) (earliest_end d k) t (Among-filter_only (must_run d t) ks k g.here).1 in
+    at_start (latest_start d k) t (earliest_end d k) its.0 its.1
+  where
+    at_start : (a t e : ℤ) → a ≤ℤ t → t <ℤ e → is_during a e a ≡ true
+    at_start a t e h k = during_from a e a (omega (arith, ints)) (omega (arith, ints))
 
 -- ---- bounds of starts
 

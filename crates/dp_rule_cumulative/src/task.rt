@@ -32,7 +32,7 @@ impl Task {
     }
 
     /// Whether it runs at the time wherever it starts.
-    fn must_run(&self, state: &State, time: i128) -> bool
+    pub(crate) fn must_run(&self, state: &State, time: i128) -> bool
         requires { IsTermOf (length state.now) self.now.start }
         ensures { result ≡ must_run state.now time self.now }
     {

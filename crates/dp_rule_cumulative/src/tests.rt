@@ -26,12 +26,7 @@ pub(crate) fn cumulative(
 }
 
 // Why two tasks, the first of them at 0, are not made.
-fn refusal(
-    alloc: Global,
-    durations: &[i64],
-    uses: &[i64],
-    capacity: i64,
-) -> Option<TaskRefusal> {
+fn refusal(alloc: Global, durations: &[i64], uses: &[i64], capacity: i64) -> Option<TaskRefusal> {
     cumulative(alloc, &[ZERO, S], durations, uses, capacity).err()
 }
 
@@ -69,16 +64,19 @@ fn numbers_that_are_refused(rt: HostRuntime) -> Result<(), Fail> {
     Ok(())
 }
 
-// A variable for each of these ranges of numbers.
-pub(crate) fn state_of(alloc: Global, ranges: &[(i64, i64)]) -> Result<State, Memory> {
+fn range(alloc: Global, (first, last): (i64, i64)) -> Result<Dom, Memory> {
+    Dom::range(
+        alloc,
+        first.clamp(-LARGEST, LARGEST),
+        last.clamp(-LARGEST, LARGEST),
+    )
+}
+
+// Two variables with the numbers between these ends.
+pub(crate) fn state_of(alloc: Global, s: (i64, i64), t: (i64, i64)) -> Result<State, Memory> {
     let mut sets = Vec::new(alloc);
-    for (first, last) in ranges {
-        sets.push(Dom::range(
-            alloc,
-            (*first).clamp(-LARGEST, LARGEST),
-            (*last).clamp(-LARGEST, LARGEST),
-        )?)?;
-    }
+    sets.push(range(alloc, s)?)?;
+    sets.push(range(alloc, t)?)?;
     Ok(State::new(sets))
 }
 
@@ -95,9 +93,9 @@ pub(crate) fn covers_scope<R: Test>(rule: &R, state: &State) -> bool
     true
 }
 
-// Whether the rule clashes where the variable has this range; None where the state lacks a variable.
+// Whether the rule clashes where the first variable has this range; None where the state lacks one.
 fn clash_of<R: Test>(alloc: Global, rule: &R, s: (i64, i64)) -> Result<Option<bool>, Memory> {
-    let state = state_of(alloc, &[s])?;
+    let state = state_of(alloc, s, (0, 0))?;
     if covers_scope(rule, &state) {
         Ok(Some(rule.clash(&state)?))
     } else {
@@ -135,7 +133,7 @@ fn a_task_beside_one_from_0_to_2(rt: HostRuntime) -> Result<(), Fail> {
 fn one_start_at_two_places(rt: HostRuntime) -> Result<(), Fail> {
     let alloc = rt.alloc();
     let rule = cumulative(alloc, &[S, S], &[2, 2], &[1, 1], 1)?;
-    assert_eq!(rt; rule.scope_len(), 1);
+    assert!(rt; is_counted(&rule, 1));
     assert_eq!(rt; clash_of(alloc, &rule, (0, 1))?, Some(true));
     assert_eq!(rt; clash_of(alloc, &rule, (0, 2))?, Some(false));
     Ok(())
@@ -156,6 +154,17 @@ fn starts_at_the_ends_of_64_bits(rt: HostRuntime) -> Result<(), Fail> {
     Ok(())
 }
 
+// Whether the variables of the rule are 0, 1, 2 and so on, as many as there are.
+fn is_counted<R: Test>(rule: &R, count: usize) -> bool {
+    for place in 0..rule.scope_len() {
+        let VarId(var) = rule.scope_at(place);
+        if var as usize != place {
+            return false;
+        }
+    }
+    rule.scope_len() == count
+}
+
 #[test]
 fn what_is_put_in_is_shown(rt: HostRuntime) -> Result<(), Fail> {
     let rule = cumulative(rt.alloc(), &[S], &[2], &[3], 4)?;
@@ -166,7 +175,7 @@ fn what_is_put_in_is_shown(rt: HostRuntime) -> Result<(), Fail> {
     };
     assert_eq!(rt; rule.tasks(), [task].as_slice());
     assert_eq!(rt; rule.capacity(), 4);
-    assert_eq!(rt; rule.scope_at(0), VarId(0));
+    assert!(rt; is_counted(&rule, 1));
     assert!(rt; !rule.is_point(VarId(0), 2));
     Ok(())
 }

@@ -180,7 +180,7 @@ const T: Term = Term::Var(VarId(1));
 #[test]
 fn a_task_that_never_fits(rt: HostRuntime) -> Result<(), Fail> {
     let alloc = rt.alloc();
-    let state = state_of(alloc, &[(0, 3)])?;
+    let state = state_of(alloc, (0, 3), (0, 0))?;
     let at_least_2 = atom(0, Op::Ge, 2)?;
     let rule = cumulative(alloc, &[S], &[2], &[2], 1)?;
     assert!(rt; leads(&rule, &state, &[], at_least_2, &[])?);
@@ -193,7 +193,7 @@ fn a_task_that_never_fits(rt: HostRuntime) -> Result<(), Fail> {
 #[test]
 fn a_task_after_another(rt: HostRuntime) -> Result<(), Fail> {
     let alloc = rt.alloc();
-    let state = state_of(alloc, &[(0, 5), (0, 5)])?;
+    let state = state_of(alloc, (0, 5), (0, 5))?;
     let (early, late) = (atom(0, Op::Le, 1)?, atom(1, Op::Ge, 3)?);
     let rule = cumulative(alloc, &[S, T], &[3, 3], &[1, 1], 1)?;
     assert!(rt; leads(&rule, &state, &[early], late, &[early])?);

@@ -1,6 +1,5 @@
 -- The start of each task is of the state, and each task adds what it uses.
-use Rattle.std.proofs.Common.{arith}
-use Rattle.dp_rule_cumulative.proofs.UsageSteps.{term_at_place, used_all, used_more, used_none}
+use Rattle.dp_rule_cumulative.proofs.UsageSteps.{term_at_place}
 use Rattle.dp_rule_cumulative.proofs.usage.sure_usage.Goals as goal
 
 pub sure_usage-requires : goal.sure_usage-requires
