@@ -51,7 +51,8 @@ during_parts start end t e =
 pub during_from : (start end t : ℤ) → start ≤ℤ t → t <ℤ end → is_during start end t ≡ true
 during_from start end t h k = and_from (int_le start t) (int_lt t end) (has_started start t h) (has_not_ended end t k)
 
-wider : (a b c e t : ℤ) → c ≤ℤ a → b ≤ℤ e → is_during a b t ≡ true → is_during c e t ≡ true
+-- what is during a part is during the whole
+pub wider : (a b c e t : ℤ) → c ≤ℤ a → b ≤ℤ e → is_during a b t ≡ true → is_during c e t ≡ true
 wider a b c e t h k m =
     let both = during_parts a b t m in
     let first : a ≤ℤ t = both.0 in
@@ -147,11 +148,13 @@ least-within xs [] v here within = absurd here
 least-within [] (y ∷ ys) v here within = absurd (within v here)
 least-within (x ∷ xs) (y ∷ ys) v here within = least_from-bound x xs _ (within _ (least_from-among y ys))
 
-greatest-value : (xs : List ℤ) (v : ℤ) → Among v xs → v ≤ℤ unwrap_or (greatest xs) (pos 0)
+-- no value is above the greatest
+pub greatest-value : (xs : List ℤ) (v : ℤ) → Among v xs → v ≤ℤ unwrap_or (greatest xs) (pos 0)
 greatest-value [] v here = absurd here
 greatest-value (x ∷ xs) v here = greatest_from-bound x xs v here
 
-least-value : (xs : List ℤ) (v : ℤ) → Among v xs → unwrap_or (least xs) (pos 0) ≤ℤ v
+-- nor below the least
+pub least-value : (xs : List ℤ) (v : ℤ) → Among v xs → unwrap_or (least xs) (pos 0) ≤ℤ v
 least-value [] v here = absurd here
 least-value (x ∷ xs) v here = least_from-bound x xs v here
 
@@ -166,7 +169,7 @@ term_value d (Const v) alive there = (v, inl refl)
 pub start_in_scope : (ks : List Task) (k : Task) → Among k ks → IsInScope (term_scope (starts ks)) k.start
 start_in_scope ks k here = term_in_scope (starts ks) k.start (Among-map (λ (j : Task). j.start) ks k here)
 
-longer : (a b : ℤ) (n : ℕ) → a ≤ℤ b → (a +ℤ pos n) ≤ℤ (b +ℤ pos n)
+pub longer : (a b : ℤ) (n : ℕ) → a ≤ℤ b → (a +ℤ pos n) ≤ℤ (b +ℤ pos n)
 longer a b n h = omega (arith, ints)
 
 -- what must run must also run at a smaller state that is not dead
