@@ -7,6 +7,7 @@ ghost use Rattle.dp_parts.specs.PartLaws.{part_deciding, part_exact, part_lawful
 
 use dp_domain::{Atom, Found, Memory, Rule, State, Steps, Test, VarId};
 use dp_rule_clause::{Nogood, Within};
+use dp_rule_cumulative::Cumulative;
 use dp_rule_element::Element;
 use dp_rule_linear::{LinLe, LinNe};
 use std::marker::Model;
@@ -20,6 +21,7 @@ pub enum Part {
     Nogood(Nogood),
     Within(Within),
     Element(Element),
+    Cumulative(Cumulative),
 }
 
 impl Test for Part {
@@ -36,6 +38,7 @@ impl Test for Part {
             Part::Nogood(part) => part.scope_len(),
             Part::Within(part) => part.scope_len(),
             Part::Element(part) => part.scope_len(),
+            Part::Cumulative(part) => part.scope_len(),
         }
     }
 
@@ -46,6 +49,7 @@ impl Test for Part {
             Part::Nogood(part) => part.scope_at(place),
             Part::Within(part) => part.scope_at(place),
             Part::Element(part) => part.scope_at(place),
+            Part::Cumulative(part) => part.scope_at(place),
         }
     }
 
@@ -56,6 +60,7 @@ impl Test for Part {
             Part::Nogood(part) => part.is_point(var, value),
             Part::Within(part) => part.is_point(var, value),
             Part::Element(part) => part.is_point(var, value),
+            Part::Cumulative(part) => part.is_point(var, value),
         }
     }
 
@@ -66,6 +71,7 @@ impl Test for Part {
             Part::Nogood(part) => part.clash(state),
             Part::Within(part) => part.clash(state),
             Part::Element(part) => part.clash(state),
+            Part::Cumulative(part) => part.clash(state),
         }
     }
 
@@ -90,6 +96,7 @@ impl Rule for Part {
             Part::Nogood(part) => part.next(state, steps),
             Part::Within(part) => part.next(state, steps),
             Part::Element(part) => part.next(state, steps),
+            Part::Cumulative(part) => part.next(state, steps),
         }
     }
 
@@ -105,6 +112,7 @@ impl Rule for Part {
             Part::Nogood(part) => part.explain(initial, now, target),
             Part::Within(part) => part.explain(initial, now, target),
             Part::Element(part) => part.explain(initial, now, target),
+            Part::Cumulative(part) => part.explain(initial, now, target),
         }
     }
 }
@@ -119,6 +127,7 @@ pub fn label(part: &Part) -> &'static str
         Part::Nogood(_) => "clause",
         Part::Within(_) => "domain",
         Part::Element(_) => "element",
+        Part::Cumulative(_) => "time_table",
     }
 }
 
