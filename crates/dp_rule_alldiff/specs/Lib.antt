@@ -1,0 +1,5 @@
+pub mod AllDifferent
+pub mod Spans
+pub mod PigeonLaws
+pub mod SpanLaws
+pub mod AllDifferentLaws
