@@ -1,13 +1,12 @@
 -- Crowds by one pass over spans in order of their last numbers.
-use Rattle.std.proofs.Common.{◌≡◌, ℕ, zero, suc, ◌+◌, ◌<◌, ◌≤◌, Bool, true, false, cond, List, [], ◌∷◌, length, get_or, drop, ℤ, pos, ◌+ℤ◌, ◌-ℤ◌, ◌≤ℤ◌, ◌<ℤ◌, int_le, int_lt, refl, sym, ◌∙◌, ap, subst, inl, inr, arith}
-use Rattle.std.specs.Prelude.{◌&&◌, ◌||◌}
-use Rattle.std.specs.List.{filter, list_any}
+use Rattle.std.proofs.Common.{◌≡◌, ℕ, suc, ◌+◌, ◌<◌, ◌≤◌, Bool, true, false, cond, List, [], ◌∷◌, length, get_or, drop, ℤ, pos, ◌+ℤ◌, ◌-ℤ◌, ◌≤ℤ◌, ◌<ℤ◌, int_le, int_lt, refl, sym, ◌∙◌, ap, subst, inl, inr, arith}
+use Rattle.std.specs.Prelude.{◌||◌}
+use Rattle.std.specs.List.{filter}
 use Rattle.std.proofs.lemmas.Bool.{false≢true, cases_Bool, cond-false, cond-true, or_cases, or_left, or_right}
 use Rattle.std.proofs.lemmas.Int.{ints}
 use Rattle.std.proofs.lemmas.List.{drop_all, drop_more}
 use Rattle.dp_base.specs.Lists.{Among, Each}
 use Rattle.dp_base.proofs.Lists.{Among-filter_only, Each-among}
-use Rattle.dp_rule_alldiff.specs.AllDifferent.{Exceeds}
 use Rattle.dp_rule_alldiff.specs.PigeonLaws.{count_is}
 use Rattle.dp_rule_alldiff.specs.SpanLaws.{crowd_from, crowd_from_some, inside_where, is_inside_where, one_there}
 use Rattle.dp_rule_alldiff.specs.Spans.{AreInOrder, IsSpan, count_inside, is_crowded_from, is_inside}
@@ -75,10 +74,13 @@ overfilled_here a n s ss span h over =
   where
     itself : (x : ℤ) → x ≤ℤ x
     itself x = omega (arith, ints)
+
     one : (k m : ℕ) → k ≡ suc m → 1 ≤ k
     one k m e = omega arith
+
     through : (x y z : ℤ) → x ≤ℤ y → y ≤ℤ z → x ≤ℤ z
     through x y z h k = omega (arith, ints)
+
     more : (a b : ℤ) (n k m : ℕ) → k ≡ suc m → ((b -ℤ a) +ℤ pos 1) <ℤ pos (n + 1) → ((b -ℤ a) +ℤ pos 1) <ℤ pos (n + k)
     more a b n k m e h = omega (arith, ints)
 
@@ -93,6 +95,7 @@ overfilled_later a b n s ss h later over =
   where
     one : (k m : ℕ) → k ≡ suc m → 1 ≤ k
     one k m e = omega arith
+
     more : (a b : ℤ) (n k m : ℕ) → k ≡ suc m → ((b -ℤ a) +ℤ pos 1) <ℤ pos ((n + 1) + m) → ((b -ℤ a) +ℤ pos 1) <ℤ pos (n + k)
     more a b n k m e h = omega (arith, ints)
 
@@ -140,6 +143,7 @@ later_some a b n s ss h k few over =
   where
     some : (a b c : ℤ) (n k m : ℕ) → k ≡ suc m → c ≤ℤ b → pos (n + 1) ≤ℤ ((c -ℤ a) +ℤ pos 1) → ((b -ℤ a) +ℤ pos 1) <ℤ pos (n + k) → 1 ≤ m
     some a b c n k m e h i j = omega (arith, ints)
+
     more : (a b : ℤ) (n k m : ℕ) → k ≡ suc m → ((b -ℤ a) +ℤ pos 1) <ℤ pos (n + k) → ((b -ℤ a) +ℤ pos 1) <ℤ pos ((n + 1) + m)
     more a b n k m e h = omega (arith, ints)
 
@@ -173,15 +177,16 @@ same_by false false f g = refl
 -- a pass from nothing finds whether an interval from a is crowded
 pub overfills_from : (a : ℤ) (ss : List (ℤ × ℤ)) → AreInOrder ss → Each IsSpan ss → overfills a 0 ss ≡ is_crowded_from ss a
 overfills_from a ss ordered spans = same_by (overfills a 0 ss) (is_crowded_from ss a)
-  (λ e. let r = overfilled_some a 0 ss ordered spans e in crowd_from ss a r.0 spans (record { some = r.1.order; more = from_none ((r.0 -ℤ a) +ℤ pos 1) (count_inside ss a r.0) r.1.more }))
-  (λ e. let r = crowd_from_some ss a e in overfilled_at a r.0 0 ss ordered (record {
-    some = one_there a r.0 (count_inside ss a r.0) r.1;
-    order = r.1.some;
-    more = to_none ((r.0 -ℤ a) +ℤ pos 1) (count_inside ss a r.0) r.1.more;
-  }))
+    (λ e. let r = overfilled_some a 0 ss ordered spans e in crowd_from ss a r.0 spans (record { some = r.1.order; more = from_none ((r.0 -ℤ a) +ℤ pos 1) (count_inside ss a r.0) r.1.more }))
+    (λ e. let r = crowd_from_some ss a e in overfilled_at a r.0 0 ss ordered (record {
+      some = one_there a r.0 (count_inside ss a r.0) r.1;
+      order = r.1.some;
+      more = to_none ((r.0 -ℤ a) +ℤ pos 1) (count_inside ss a r.0) r.1.more;
+    }))
   where
     from_none : (z : ℤ) (n : ℕ) → z <ℤ pos (0 + n) → z <ℤ pos n
     from_none z n h = omega (arith, ints)
+
     to_none : (z : ℤ) (n : ℕ) → z <ℤ pos n → z <ℤ pos (0 + n)
     to_none z n h = omega (arith, ints)
 

@@ -1,9 +1,7 @@
 -- Spans one position on, and spans in order.
-use Rattle.std.proofs.Common.{◌≡◌, ℕ, zero, suc, ◌+◌, ◌<◌, ◌≤◌, Bool, true, false, List, [], ◌∷◌, ◌++◌, length, get_or, take, drop, ℤ, ◌≤ℤ◌, IsPermutation, refl, sym, ◌∙◌, ap, subst, arith}
-use Rattle.std.specs.List.{filter, filter_map}
+use Rattle.std.proofs.Common.{◌≡◌, ℕ, suc, ◌+◌, ◌<◌, ◌≤◌, Bool, true, false, List, [], ◌∷◌, ◌++◌, length, get_or, take, ℤ, ◌≤ℤ◌, IsPermutation, refl, sym, ◌∙◌, ap, subst, arith}
 use Rattle.std.specs.List.Sorted.{IsSortedByKey}
 use Rattle.std.specs.Ordering.{int_cmp, is_lt}
-use Rattle.std.specs.declared.cmp.Ordering.TheVariants.{Less, Equal, Greater}
 use Rattle.std.proofs.lemmas.Bool.{false≢true}
 use Rattle.std.proofs.lemmas.Cmp.{int_cmp_total}
 use Rattle.std.proofs.lemmas.Int.{ints}
@@ -67,5 +65,5 @@ same_by false false f g = refl
 -- and a crowd is found in any order
 pub has_crowd_same : (ss ts : List (ℤ × ℤ)) → IsPermutation ss ts → Each IsSpan ss → has_crowd ts ≡ has_crowd ss
 has_crowd_same ss ts same each = same_by (has_crowd ts) (has_crowd ss)
-  (λ e. let r = crowd_some ts e in crowd_at ss r.0 r.1 each (exceeds_same r.0 r.1 (count_inside ts r.0 r.1) (count_inside ss r.0 r.1) (sym (count_same ss ts same r.0 r.1)) r.2))
-  (λ e. let r = crowd_some ss e in crowd_at ts r.0 r.1 (spans_same ss ts same each) (exceeds_same r.0 r.1 (count_inside ss r.0 r.1) (count_inside ts r.0 r.1) (count_same ss ts same r.0 r.1) r.2))
+    (λ e. let r = crowd_some ts e in crowd_at ss r.0 r.1 each (exceeds_same r.0 r.1 (count_inside ts r.0 r.1) (count_inside ss r.0 r.1) (sym (count_same ss ts same r.0 r.1)) r.2))
+    (λ e. let r = crowd_some ss e in crowd_at ts r.0 r.1 (spans_same ss ts same each) (exceeds_same r.0 r.1 (count_inside ss r.0 r.1) (count_inside ts r.0 r.1) (count_same ss ts same r.0 r.1) r.2))

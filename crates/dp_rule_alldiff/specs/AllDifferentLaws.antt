@@ -1,14 +1,13 @@
 -- The laws of all-different constraints.
 use Rattle.std.specs.Prelude.{◌≡◌, ℕ, suc, ◌≤◌, ◌<◌, Bool, true, false, ◌||◌, ◌↔◌, List, [], ◌∷◌, length, filter, map, ℤ, pos, ◌+ℤ◌, ◌-ℤ◌, ◌≤ℤ◌, ◌<ℤ◌}
-use Rattle.std.specs.List.{list_all}
 use Rattle.std.proofs.Common.{refl, sym, ◌∙◌, ap, subst, inl, inr, arith, cond}
 use Rattle.std.proofs.lemmas.Int.{ints}
 use Rattle.std.proofs.lemmas.Bool.{both_ways, false≢true, false_from_ne_true, or_cases, or_left, or_right}
 use Rattle.dp_base.specs.Lists.{Among}
-use Rattle.dp_base.proofs.Lists.{Each-among, list_all-at, list_all-from}
+use Rattle.dp_base.proofs.Lists.{list_all-at, list_all-from}
 use Rattle.dp_base.proofs.ScopeLaws.{climbs_in_order}
 use Rattle.dp_domain.specs.Faces.{Covers, Fixes, IsLawful}
-use Rattle.dp_domain.specs.States.{Domains, LiesIn, IsWithin, is_dead, values}
+use Rattle.dp_domain.specs.States.{Domains, LiesIn, IsWithin, is_dead}
 use Rattle.dp_domain.specs.Terms.{IsTermOf, term_at, term_scope, term_values, term_variables}
 use Rattle.dp_domain.specs.declared.term.Term.{Term}
 use Rattle.dp_domain.specs.declared.term.Term.TheVariants.{Var, Const}
@@ -152,6 +151,7 @@ twice_exceeds terms d s v fixes twice =
   where
     itself : (x : ℤ) → x ≤ℤ x
     itself x = omega (arith, ints)
+
     two : (v : ℤ) (n m k : ℕ) → 2 ≤ n → m ≡ n → m ≤ k → ((v -ℤ v) +ℤ pos 1) <ℤ pos k
     two v n m k h e i = omega (arith, ints)
 

@@ -1,5 +1,5 @@
 -- The pigeonhole principle: of different numbers no more lie in an interval than it has.
-use Rattle.std.specs.Prelude.{◌≡◌, ℕ, zero, suc, ◌+◌, ◌≤◌, Bool, true, false, ◌&&◌, if◌then◌else◌, ◌⊎◌, List, [], ◌∷◌, length, filter, ℤ, pos, negsuc, ◌+ℤ◌, ◌-ℤ◌, ◌≤ℤ◌, ◌<ℤ◌, int_le}
+use Rattle.std.specs.Prelude.{◌≡◌, ℕ, zero, suc, ◌+◌, ◌≤◌, Bool, true, false, ◌⊎◌, List, [], ◌∷◌, length, filter, ℤ, pos, negsuc, ◌+ℤ◌, ◌-ℤ◌, ◌≤ℤ◌, ◌<ℤ◌, int_le}
 use Rattle.std.proofs.Common.{refl, sym, ◌∙◌, ap, subst, inl, inr, arith, cond}
 use Rattle.std.proofs.lemmas.Int.{ints}
 use Rattle.std.proofs.lemmas.Bool.{false≢true, and_from, and_parts, cases_Bool}
@@ -96,6 +96,7 @@ last_or_before a b v e = let inside = between_where a b v e in elim (cases_Bool 
   where
     least : (b v : ℤ) → int_le b v ≡ true → b ≤ℤ v
     least b v e = omega (arith, ints)
+
     under : (b v : ℤ) → int_le b v ≡ false → v ≤ℤ (b -ℤ pos 1)
     under b v e = omega (arith, ints)
 
@@ -112,8 +113,10 @@ once (v ∷ vs) b distinct = elim (cases_Bool (is_between b b v)) [
   where
     same : (v w b : ℤ) → (b ≤ℤ v) × (v ≤ℤ b) → (b ≤ℤ w) × (w ≤ℤ b) → w ≡ v
     same v w b h k = omega (arith, ints)
+
     one : (n m : ℕ) → n ≡ suc m → m ≡ 0 → n ≤ 1
     one n m e f = omega arith
+
     fewer : (n m : ℕ) → n ≡ m → m ≤ 1 → n ≤ 1
     fewer n m e h = omega arith
 
@@ -122,6 +125,7 @@ distinct_few zero a b vs e distinct = none (length (filter (is_between a b) vs))
   where
     empty : (a b v : ℤ) → (b +ℤ pos 1) ≡ (a +ℤ pos 0) → a ≤ℤ v → v ≤ℤ b → ⊥
     empty a b v e h k = omega (arith, ints)
+
     none : (n : ℕ) → n ≡ 0 → n ≤ 0
     none n e = omega arith
 distinct_few (suc n) a b vs e distinct =
@@ -132,6 +136,7 @@ distinct_few (suc n) a b vs e distinct =
   where
     shorter : (n : ℕ) (a b : ℤ) → (b +ℤ pos 1) ≡ (a +ℤ pos (suc n)) → ((b -ℤ pos 1) +ℤ pos 1) ≡ (a +ℤ pos n)
     shorter n a b e = omega (arith, ints)
+
     total : (k m l n : ℕ) → k ≤ m + l → m ≤ n → l ≤ 1 → k ≤ suc n
     total k m l n h i j = omega arith
 
@@ -162,8 +167,10 @@ distinct_or_twice (v ∷ vs) = elim (cases_Bool (is_among v vs)) [
   where
     is_own : (v : ℤ) → is_between v v v ≡ true
     is_own v = is_between_where v v v (omega (arith, ints)) (omega (arith, ints))
+
     two : (n m : ℕ) → n ≡ suc m → 1 ≤ m → 2 ≤ n
     two n m e h = omega arith
+
     more : (b : Bool) (n m : ℕ) → n ≡ cond b (suc m) m → 2 ≤ m → 2 ≤ n
     more true n m e h = omega arith
     more false n m e h = omega arith

@@ -1,6 +1,6 @@
 -- Laws of spans: they tell which sets lie in an interval, and a crowd is found between their ends.
-use Rattle.std.specs.Prelude.{◌≡◌, ℕ, zero, suc, ◌+◌, ◌≤◌, Bool, true, false, ◌&&◌, Option, Some, None, List, [], ◌∷◌, length, filter, map, ℤ, pos, ◌+ℤ◌, ◌-ℤ◌, ◌≤ℤ◌, ◌<ℤ◌, int_le, int_lt}
-use Rattle.std.specs.List.{cons_option, filter_map, list_all, list_any}
+use Rattle.std.specs.Prelude.{◌≡◌, ℕ, suc, ◌≤◌, Bool, true, false, Option, List, [], ◌∷◌, length, filter, map, ℤ, pos, ◌+ℤ◌, ◌-ℤ◌, ◌≤ℤ◌, ◌<ℤ◌, int_le, int_lt}
+use Rattle.std.specs.List.{cons_option, filter_map}
 use Rattle.std.proofs.Common.{refl, sym, ◌∙◌, ap, subst, inl, inr, arith, cond}
 use Rattle.std.proofs.lemmas.Int.{ints}
 use Rattle.std.proofs.lemmas.Bool.{false≢true, and_from, and_parts}
@@ -40,10 +40,10 @@ same_by false false f g = refl
 -- a set lies in an interval exactly where its span does
 lies_inside : (a b v : ℤ) (vs : List ℤ) → lies_between a b (v ∷ vs) ≡ is_inside a b (least_from v vs, greatest_from v vs)
 lies_inside a b v vs = same_by (lies_between a b (v ∷ vs)) (is_inside a b (least_from v vs, greatest_from v vs))
-  (λ e. is_inside_where a b (least_from v vs, greatest_from v vs)
+    (λ e. is_inside_where a b (least_from v vs, greatest_from v vs)
     (between_where a b (least_from v vs) (list_all-at (is_between a b) (v ∷ vs) (least_from v vs) e (least_from-among v vs))).0
     (between_where a b (greatest_from v vs) (list_all-at (is_between a b) (v ∷ vs) (greatest_from v vs) e (greatest_from-among v vs))).1)
-  (λ e. list_all-from (is_between a b) (v ∷ vs) (λ w here.
+    (λ e. list_all-from (is_between a b) (v ∷ vs) (λ w here.
     let inside = inside_where a b (least_from v vs, greatest_from v vs) e in
     is_between_where a b w
     (through a (least_from v vs) w inside.0 (least_from-bound v vs w here))
@@ -112,6 +112,7 @@ crowded_where ss a b e = let both = and_parts (int_le a b) (int_lt ((b -ℤ a) +
   where
     order : (x y : ℤ) → int_le x y ≡ true → x ≤ℤ y
     order x y e = omega (arith, ints)
+
     less : (x y : ℤ) → int_lt x y ≡ true → x <ℤ y
     less x y e = omega (arith, ints)
 
@@ -120,6 +121,7 @@ is_crowded_where ss a b exceeds = and_from (int_le a b) (int_lt ((b -ℤ a) +ℤ
   where
     order : (x y : ℤ) → x ≤ℤ y → int_le x y ≡ true
     order x y h = sym (omega (arith, ints))
+
     less : (x y : ℤ) → x <ℤ y → int_lt x y ≡ true
     less x y h = sym (omega (arith, ints))
 
@@ -180,7 +182,7 @@ crowd_from ss a b ordered exceeds =
     let there = Among-filter_only (is_inside a b) ss last.0 last.1 in
     let ends = inside_where a b last.0 there.1 in
     let more = count-within (is_inside a b) (is_inside a last.0.1) ss (λ s here inside.
-      is_inside_where a last.0.1 s (inside_where a b s inside).0 (last.2 s (Among-filter_all (is_inside a b) ss s here inside))) in
+    is_inside_where a last.0.1 s (inside_where a b s inside).0 (last.2 s (Among-filter_all (is_inside a b) ss s here inside))) in
     list_any-at (λ (s : ℤ × ℤ). is_crowded ss a s.1) ss last.0 there.0
     (is_crowded_where ss a last.0.1
     (tighter a b a last.0.1 (count_inside ss a b) (count_inside ss a last.0.1) (itself a) (through a last.0.0 last.0.1 ends.0 (Each-among IsSpan ss ordered last.0 there.0)) ends.1 more exceeds))
@@ -192,7 +194,7 @@ crowd_at ss a b ordered exceeds =
     let there = Among-filter_only (is_inside a b) ss first.0 first.1 in
     let ends = inside_where a b first.0 there.1 in
     let more = count-within (is_inside a b) (is_inside first.0.0 b) ss (λ s here inside.
-      is_inside_where first.0.0 b s (first.2 s (Among-filter_all (is_inside a b) ss s here inside)) (inside_where a b s inside).1) in
+    is_inside_where first.0.0 b s (first.2 s (Among-filter_all (is_inside a b) ss s here inside)) (inside_where a b s inside).1) in
     list_any-at (λ (s : ℤ × ℤ). is_crowded_from ss s.0) ss first.0 there.0
     (crowd_from ss first.0.0 b ordered
     (tighter a b first.0.0 b (count_inside ss a b) (count_inside ss first.0.0 b) ends.0 (through first.0.0 first.0.1 b (Each-among IsSpan ss ordered first.0 there.0) ends.1) (itself b) more exceeds))

@@ -1,8 +1,8 @@
 -- A span is passed over, is one too many, or is counted.
-use Rattle.std.proofs.Common.{◌≡◌, ◌+◌, ◌≤◌, pos, drop, ap, arith, subst, sym, ◌∙◌}
+use Rattle.std.proofs.Common.{pos, arith, sym, ◌∙◌}
 use Rattle.std.proofs.lemmas.Int.{to_z-of_z}
 use mir.Syntax.{w64}
-use Rattle.dp_rule_alldiff.proofs.CrowdSteps.{overfills, overfills_counted, overfills_here, overfills_none, overfills_over, overfills_read}
+use Rattle.dp_rule_alldiff.proofs.CrowdSteps.{overfills_counted, overfills_here, overfills_none, overfills_over, overfills_read}
 use Rattle.dp_rule_alldiff.proofs.spans.is_crowded_from.Goals as goal
 use Rattle.dp_rule_alldiff.proofs.spans.is_crowded_from.Goals.{then-begins_from+else-is_exceeded, else-begins_from}
 
