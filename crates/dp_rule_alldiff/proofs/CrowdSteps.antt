@@ -7,7 +7,10 @@ use Rattle.std.proofs.lemmas.Int.{ints}
 use Rattle.std.proofs.lemmas.List.{drop_all, drop_more}
 use Rattle.dp_base.specs.Lists.{Among, Each}
 use Rattle.dp_base.proofs.Lists.{Among-filter_only, Each-among}
-use Rattle.dp_rule_alldiff.specs.PigeonLaws.{count_is}
+use Rattle.std.specs.Cmp.{both_ways}
+use Rattle.dp_domain.proofs.AtomLaws.{le-from_test, lt-from_test}
+use Rattle.dp_rule_alldiff.specs.CountLaws.{count_is}
+use Rattle.dp_rule_alldiff.specs.OrderLaws.{le_itself, le_through, less_where, no_less_where, not_both}
 use Rattle.dp_rule_alldiff.specs.SpanLaws.{crowd_from, crowd_from_some, inside_where, is_inside_where, one_there}
 use Rattle.dp_rule_alldiff.specs.Spans.{AreInOrder, IsSpan, count_inside, is_crowded_from, is_inside}
 
@@ -17,18 +20,6 @@ overfills a n [] = false
 overfills a n (s ∷ ss) = cond (int_le a s.0) (int_lt ((s.1 -ℤ a) +ℤ pos 1) (pos (n + 1)) || overfills a (n + 1) ss) (overfills a n ss)
 
 -- ---- one step
-
-order : (x y : ℤ) → int_le x y ≡ true → x ≤ℤ y
-order x y e = omega (arith, ints)
-
-after : (x y : ℤ) → int_le x y ≡ false → y <ℤ x
-after x y e = omega (arith, ints)
-
-less : (x y : ℤ) → int_lt x y ≡ true → x <ℤ y
-less x y e = omega (arith, ints)
-
-no_less : (x y : ℤ) → int_lt x y ≡ false → y ≤ℤ x
-no_less x y e = omega (arith, ints)
 
 -- a span inside is counted
 counts : (s : ℤ × ℤ) (ss : List (ℤ × ℤ)) (a b : ℤ) → a ≤ℤ s.0 → s.1 ≤ℤ b → count_inside (s ∷ ss) a b ≡ suc (count_inside ss a b)
@@ -50,10 +41,7 @@ ends_before : (s : ℤ × ℤ) (ss : List (ℤ × ℤ)) (a b : ℤ) → Each (λ
 ends_before s ss a b later some =
     let t = some_inside (filter (is_inside a b) ss) some in
     let there = Among-filter_only (is_inside a b) ss t.0 t.1 in
-    through s.1 t.0.1 b (Each-among (λ (u : ℤ × ℤ). s.1 ≤ℤ u.1) ss later t.0 there.0) (inside_where a b t.0 there.1).1
-  where
-    through : (x y z : ℤ) → x ≤ℤ y → y ≤ℤ z → x ≤ℤ z
-    through x y z h k = omega (arith, ints)
+    le_through s.1 t.0.1 b (Each-among (λ (u : ℤ × ℤ). s.1 ≤ℤ u.1) ss later t.0 there.0) (inside_where a b t.0 there.1).1
 
 -- ---- what a pass finds
 
@@ -65,21 +53,15 @@ record IsOverfilled (a b : ℤ) (n : ℕ) (ss : List (ℤ × ℤ)) : Type 0 wher
 
 overfilled_here : (a : ℤ) (n : ℕ) (s : ℤ × ℤ) (ss : List (ℤ × ℤ)) → IsSpan s → a ≤ℤ s.0 → ((s.1 -ℤ a) +ℤ pos 1) <ℤ pos (n + 1) → IsOverfilled a s.1 n (s ∷ ss)
 overfilled_here a n s ss span h over =
-    let e = counts s ss a s.1 h (itself s.1) in
+    let e = counts s ss a s.1 h (le_itself s.1) in
     record {
       some = one (count_inside (s ∷ ss) a s.1) (count_inside ss a s.1) e;
-      order = through a s.0 s.1 h span;
+      order = le_through a s.0 s.1 h span;
       more = more a s.1 n (count_inside (s ∷ ss) a s.1) (count_inside ss a s.1) e over;
     }
   where
-    itself : (x : ℤ) → x ≤ℤ x
-    itself x = omega (arith, ints)
-
     one : (k m : ℕ) → k ≡ suc m → 1 ≤ k
     one k m e = omega arith
-
-    through : (x y z : ℤ) → x ≤ℤ y → y ≤ℤ z → x ≤ℤ z
-    through x y z h k = omega (arith, ints)
 
     more : (a b : ℤ) (n k m : ℕ) → k ≡ suc m → ((b -ℤ a) +ℤ pos 1) <ℤ pos (n + 1) → ((b -ℤ a) +ℤ pos 1) <ℤ pos (n + k)
     more a b n k m e h = omega (arith, ints)
@@ -113,22 +95,19 @@ overfilled_rest a b n s ss e over = record {
   more = subst (λ k. ((b -ℤ a) +ℤ pos 1) <ℤ pos (n + k)) e over.more;
 }
 
-not_after : (x y : ℤ) → y <ℤ x → x ≤ℤ y → ⊥
-not_after x y h k = omega (arith, ints)
-
 overfilled_some : (a : ℤ) (n : ℕ) (ss : List (ℤ × ℤ)) → AreInOrder ss → Each IsSpan ss → overfills a n ss ≡ true → (b : ℤ) × IsOverfilled a b n ss
 overfilled_some a n [] ordered spans e = absurd (false≢true e)
 overfilled_some a n (s ∷ ss) ordered spans e = elim (cases_Bool (int_le a s.0)) [
   | inl in_from ↦
       elim (or_cases (int_lt ((s.1 -ℤ a) +ℤ pos 1) (pos (n + 1))) (overfills a (n + 1) ss) (sym (cond-true (int_le a s.0) _ _ in_from) ∙ e)) [
-        | inl over ↦ (s.1, overfilled_here a n s ss spans.0 (order a s.0 in_from) (less ((s.1 -ℤ a) +ℤ pos 1) (pos (n + 1)) over))
+        | inl over ↦ (s.1, overfilled_here a n s ss spans.0 (le-from_test a s.0 in_from) (less_where ((s.1 -ℤ a) +ℤ pos 1) (pos (n + 1)) over))
         | inr rest ↦
             let r = overfilled_some a (n + 1) ss ordered.1 spans.1 rest in
-            (r.0, overfilled_later a r.0 n s ss (order a s.0 in_from) ordered.0 r.1)
+            (r.0, overfilled_later a r.0 n s ss (le-from_test a s.0 in_from) ordered.0 r.1)
       ]
   | inr before ↦
       let r = overfilled_some a n ss ordered.1 spans.1 (sym (cond-false (int_le a s.0) _ _ before) ∙ e) in
-      (r.0, overfilled_same a r.0 n s ss (passes_over s ss a r.0 (λ h k. not_after a s.0 (after a s.0 before) h)) r.1)
+      (r.0, overfilled_same a r.0 n s ss (passes_over s ss a r.0 (λ h k. not_both a s.0 (lt-from_test a s.0 before) h)) r.1)
 ]
 
 -- where the span itself is not one too many, a later one is
@@ -158,25 +137,20 @@ overfilled_at a b n (s ∷ ss) ordered over = elim (cases_Bool (int_le a s.0)) [
       | inl here ↦ or_left (int_lt ((s.1 -ℤ a) +ℤ pos 1) (pos (n + 1))) (overfills a (n + 1) ss) here
       | inr few ↦
           or_right (int_lt ((s.1 -ℤ a) +ℤ pos 1) (pos (n + 1))) (overfills a (n + 1) ss)
-          (overfilled_at a b (n + 1) ss ordered.1 (later_some a b n s ss (order a s.0 in_from) (order s.1 b in_to) (no_less ((s.1 -ℤ a) +ℤ pos 1) (pos (n + 1)) few) over))
+          (overfilled_at a b (n + 1) ss ordered.1 (later_some a b n s ss (le-from_test a s.0 in_from) (le-from_test s.1 b in_to) (no_less_where ((s.1 -ℤ a) +ℤ pos 1) (pos (n + 1)) few) over))
     ]
     | inr beyond ↦
-        let rest = overfilled_rest a b n s ss (passes_over s ss a b (λ h k. not_after s.1 b (after s.1 b beyond) k)) over in
-        absurd (not_after s.1 b (after s.1 b beyond) (ends_before s ss a b ordered.0 rest.some))
+        let rest = overfilled_rest a b n s ss (passes_over s ss a b (λ h k. not_both s.1 b (lt-from_test s.1 b beyond) k)) over in
+        absurd (not_both s.1 b (lt-from_test s.1 b beyond) (ends_before s ss a b ordered.0 rest.some))
   ]
   | inr before ↦
       cond-false (int_le a s.0) _ _ before
-      ∙ overfilled_at a b n ss ordered.1 (overfilled_rest a b n s ss (passes_over s ss a b (λ h k. not_after a s.0 (after a s.0 before) h)) over)
+      ∙ overfilled_at a b n ss ordered.1 (overfilled_rest a b n s ss (passes_over s ss a b (λ h k. not_both a s.0 (lt-from_test a s.0 before) h)) over)
 ]
-
-same_by : (x y : Bool) → (x ≡ true → y ≡ true) → (y ≡ true → x ≡ true) → x ≡ y
-same_by true y f g = sym (f refl)
-same_by false true f g = absurd (false≢true (g refl))
-same_by false false f g = refl
 
 -- a pass from nothing finds whether an interval from a is crowded
 pub overfills_from : (a : ℤ) (ss : List (ℤ × ℤ)) → AreInOrder ss → Each IsSpan ss → overfills a 0 ss ≡ is_crowded_from ss a
-overfills_from a ss ordered spans = same_by (overfills a 0 ss) (is_crowded_from ss a)
+overfills_from a ss ordered spans = both_ways (overfills a 0 ss) (is_crowded_from ss a)
     (λ e. let r = overfilled_some a 0 ss ordered spans e in crowd_from ss a r.0 spans (record { some = r.1.order; more = from_none ((r.0 -ℤ a) +ℤ pos 1) (count_inside ss a r.0) r.1.more }))
     (λ e. let r = crowd_from_some ss a e in overfilled_at a r.0 0 ss ordered (record {
       some = one_there a r.0 (count_inside ss a r.0) r.1;

@@ -1,8 +1,7 @@
 -- Spans one position on, and spans in order.
-use Rattle.std.proofs.Common.{◌≡◌, ℕ, suc, ◌+◌, ◌<◌, ◌≤◌, Bool, true, false, List, [], ◌∷◌, ◌++◌, length, get_or, take, ℤ, ◌≤ℤ◌, IsPermutation, refl, sym, ◌∙◌, ap, subst, arith}
+use Rattle.std.proofs.Common.{◌≡◌, ℕ, suc, ◌+◌, ◌<◌, ◌≤◌, false, List, [], ◌∷◌, ◌++◌, length, get_or, take, ℤ, ◌≤ℤ◌, IsPermutation, sym, ◌∙◌, ap, subst, arith}
 use Rattle.std.specs.List.Sorted.{IsSortedByKey}
 use Rattle.std.specs.Ordering.{int_cmp, is_lt}
-use Rattle.std.proofs.lemmas.Bool.{false≢true}
 use Rattle.std.proofs.lemmas.Cmp.{int_cmp_total}
 use Rattle.std.proofs.lemmas.Int.{ints}
 use Rattle.std.proofs.lemmas.List.{take_more}
@@ -14,8 +13,9 @@ use Rattle.dp_base.proofs.Lists.{All-from_each, Among-get_or, Each-among, Each-f
 use Rattle.dp_domain.specs.States.{Domains}
 use Rattle.dp_domain.specs.Terms.{AreTermsOf, IsTermOf, term_values}
 use Rattle.dp_domain.specs.declared.term.Term.{Term}
+use Rattle.std.specs.Cmp.{both_ways}
+use Rattle.dp_rule_alldiff.specs.PigeonLaws.{exceeds_same}
 use Rattle.dp_rule_alldiff.specs.SpanLaws.{crowd_at, crowd_some}
-use Rattle.dp_rule_alldiff.specs.AllDifferent.{Exceeds}
 use Rattle.dp_rule_alldiff.specs.Spans.{AreInOrder, IsSpan, count_inside, has_crowd, is_inside, span_of, spans_of}
 
 -- the term at a place is of the state
@@ -50,20 +50,12 @@ count_same : (ss ts : List (ℤ × ℤ)) → IsPermutation ss ts → (a b : ℤ)
 count_same ss ts same a b =
     length-filter (is_inside a b) ss ∙ sym (sum_by-IsPermutation _ ss ts same) ∙ sym (length-filter (is_inside a b) ts)
 
-exceeds_same : (a b : ℤ) (n m : ℕ) → n ≡ m → Exceeds a b n → Exceeds a b m
-exceeds_same a b n m e exceeds = subst (λ k. Exceeds a b k) e exceeds
-
 -- what holds of each span holds in any order
 pub spans_same : (ss ts : List (ℤ × ℤ)) → IsPermutation ss ts → Each IsSpan ss → Each IsSpan ts
 spans_same ss ts same each = Each-from_all IsSpan ts (All-permutation IsSpan ss ts same (All-from_each IsSpan ss each))
 
-same_by : (x y : Bool) → (x ≡ true → y ≡ true) → (y ≡ true → x ≡ true) → x ≡ y
-same_by true y f g = sym (f refl)
-same_by false true f g = absurd (false≢true (g refl))
-same_by false false f g = refl
-
 -- and a crowd is found in any order
 pub has_crowd_same : (ss ts : List (ℤ × ℤ)) → IsPermutation ss ts → Each IsSpan ss → has_crowd ts ≡ has_crowd ss
-has_crowd_same ss ts same each = same_by (has_crowd ts) (has_crowd ss)
+has_crowd_same ss ts same each = both_ways (has_crowd ts) (has_crowd ss)
     (λ e. let r = crowd_some ts e in crowd_at ss r.0 r.1 each (exceeds_same r.0 r.1 (count_inside ts r.0 r.1) (count_inside ss r.0 r.1) (sym (count_same ss ts same r.0 r.1)) r.2))
     (λ e. let r = crowd_some ss e in crowd_at ts r.0 r.1 (spans_same ss ts same each) (exceeds_same r.0 r.1 (count_inside ss r.0 r.1) (count_inside ts r.0 r.1) (count_same ss ts same r.0 r.1) r.2))

@@ -1,5 +1,5 @@
 -- The laws of all-different constraints.
-use Rattle.std.specs.Prelude.{◌≡◌, ℕ, suc, ◌≤◌, ◌<◌, Bool, true, false, ◌||◌, ◌↔◌, List, [], ◌∷◌, length, filter, map, ℤ, pos, ◌+ℤ◌, ◌-ℤ◌, ◌≤ℤ◌, ◌<ℤ◌}
+use Rattle.std.specs.Prelude.{◌≡◌, ℕ, suc, ◌≤◌, ◌<◌, Bool, true, false, ◌||◌, ◌↔◌, List, [], ◌∷◌, length, filter, map, ℤ, pos, ◌+ℤ◌, ◌-ℤ◌, ◌<ℤ◌}
 use Rattle.std.proofs.Common.{refl, sym, ◌∙◌, ap, subst, inl, inr, arith, cond}
 use Rattle.std.proofs.lemmas.Int.{ints}
 use Rattle.std.proofs.lemmas.Bool.{both_ways, false≢true, false_from_ne_true, or_cases, or_left, or_right}
@@ -14,14 +14,13 @@ use Rattle.dp_domain.specs.declared.term.Term.TheVariants.{Var, Const}
 use Rattle.dp_domain.proofs.StateLaws.{LiesIn-alive, alive-value, dead-within}
 use Rattle.dp_domain.proofs.TermLaws.{term_covered, term_in_scope, term_values-fixed, term_values-sound, term_values-within}
 use Rattle.dp_rule_alldiff.specs.AllDifferent.{ClashesAllDifferent, Exceeds, MeetsAllDifferent, face_all_different, is_between, lies_between, positions_between, test_all_different}
-use Rattle.dp_rule_alldiff.specs.PigeonLaws.{count-within, distinct_or_twice, pigeonhole}
+use Rattle.dp_rule_alldiff.specs.PigeonLaws.{distinct_or_twice, exceeds_more, exceeds_same, pigeonhole}
+use Rattle.dp_rule_alldiff.specs.CountLaws.{count-within}
+use Rattle.dp_rule_alldiff.specs.OrderLaws.{le_itself}
 use Rattle.dp_rule_alldiff.specs.SpanLaws.{crowd_at, crowd_some, positions_inside, spans_local, spans_ordered}
 use Rattle.dp_rule_alldiff.specs.Spans.{count_inside, has_crowd, spans_of}
 
 -- ---- the test
-
-exceeds_same : (a b : ℤ) (n m : ℕ) → n ≡ m → Exceeds a b n → Exceeds a b m
-exceeds_same a b n m e exceeds = subst (λ k. Exceeds a b k) e exceeds
 
 clashes_where : (terms : List Term) (d : Domains) → test_all_different terms d ≡ true → ClashesAllDifferent terms d
 clashes_where terms d e = elim (or_cases (is_dead d) (has_crowd (spans_of d terms)) e) [
@@ -67,12 +66,6 @@ more_positions terms d e a b covers within alive =
     count-within (λ t. lies_between a b (term_values d t)) (λ t. lies_between a b (term_values e t)) terms (λ t here lies.
     let m = term_value e t alive (term_smaller d e t within (covered terms d covers t here)) in
     lies_less a b (term_values d t) (term_values e t) m.0 m.1 (λ u there. term_values-within d e t within u there) lies)
-
-exceeds_more : (a b : ℤ) (n m : ℕ) → n ≤ m → Exceeds a b n → Exceeds a b m
-exceeds_more a b n m h exceeds = record { some = exceeds.some; more = further ((b -ℤ a) +ℤ pos 1) n m h exceeds.more }
-  where
-    further : (z : ℤ) (n m : ℕ) → n ≤ m → z <ℤ pos n → z <ℤ pos m
-    further z n m h k = omega (arith, ints)
 
 monotone : (terms : List Term) (d e : Domains) → Covers (term_scope terms) d → IsWithin e d → ClashesAllDifferent terms d → (b : Bool) → is_dead e ≡ b → ClashesAllDifferent terms e
 monotone terms d e covers within clashes true dead = inl dead
@@ -145,13 +138,10 @@ twice_exceeds terms d s v fixes twice =
     let more = count-within (λ t. is_between v v (term_at s t)) (λ t. lies_between v v (term_values d t)) terms (λ t here inside. only_between v v (term_at s t) (term_values d t) (fixed_values terms d s fixes t here) inside) in
     let same = count_values (term_at s) (is_between v v) terms in
     record {
-      some = itself v;
+      some = le_itself v;
       more = two v (length (filter (is_between v v) (map (term_at s) terms))) (length (filter (λ t. is_between v v (term_at s t)) terms)) (positions_between d terms v v) twice same more;
     }
   where
-    itself : (x : ℤ) → x ≤ℤ x
-    itself x = omega (arith, ints)
-
     two : (v : ℤ) (n m k : ℕ) → 2 ≤ n → m ≡ n → m ≤ k → ((v -ℤ v) +ℤ pos 1) <ℤ pos k
     two v n m k h e i = omega (arith, ints)
 

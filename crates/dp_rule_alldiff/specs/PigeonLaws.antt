@@ -1,87 +1,24 @@
 -- The pigeonhole principle: of different numbers no more lie in an interval than it has.
 use Rattle.std.specs.Prelude.{◌≡◌, ℕ, zero, suc, ◌+◌, ◌≤◌, Bool, true, false, ◌⊎◌, List, [], ◌∷◌, length, filter, ℤ, pos, negsuc, ◌+ℤ◌, ◌-ℤ◌, ◌≤ℤ◌, ◌<ℤ◌, int_le}
-use Rattle.std.proofs.Common.{refl, sym, ◌∙◌, ap, subst, inl, inr, arith, cond}
+use Rattle.std.proofs.Common.{refl, sym, ◌∙◌, subst, inl, inr, arith, cond}
 use Rattle.std.proofs.lemmas.Int.{ints}
 use Rattle.std.proofs.lemmas.Bool.{false≢true, and_from, and_parts, cases_Bool}
 use Rattle.dp_base.specs.Lists.{Among}
 use Rattle.dp_domain.specs.Sets.{is_among}
 use Rattle.dp_domain.proofs.ShareLaws.{is_among-at, is_among-some}
+use Rattle.dp_domain.proofs.AtomLaws.{le-from_test, lt-from_test, test-from_le}
+use Rattle.dp_rule_alldiff.specs.CountLaws.{count-either, count-none, count-some, count_is}
+use Rattle.dp_rule_alldiff.specs.OrderLaws.{le_itself}
 use Rattle.dp_rule_alldiff.specs.AllDifferent.{AreDistinct, Exceeds, is_between}
-
--- ---- how many items pass a test
-
-count_step : (b c : Bool) (n m : ℕ) → (b ≡ true → c ≡ true) → n ≤ m → cond b (suc n) n ≤ cond c (suc m) m
-count_step true true n m h k = omega arith
-count_step true false n m h k = absurd (false≢true (h refl))
-count_step false true n m h k = omega arith
-count_step false false n m h k = k
-
--- an item is counted where it passes
-pub count_is : {A : Type 0} (p : A → Bool) (x : A) (xs : List A) (b : Bool) → p x ≡ b → length (filter p (x ∷ xs)) ≡ cond b (suc (length (filter p xs))) (length (filter p xs))
-count_is p x xs true e = ap (λ c. length (cond c (x ∷ filter p xs) (filter p xs))) e
-count_is p x xs false e = ap (λ c. length (cond c (x ∷ filter p xs) (filter p xs))) e
-
--- no more items pass the stronger of two tests
-pub count-within : {A : Type 0} (p q : A → Bool) (xs : List A) → ((x : A) → Among x xs → p x ≡ true → q x ≡ true) → length (filter p xs) ≤ length (filter q xs)
-count-within p q [] h = omega arith
-count-within p q (x ∷ xs) h =
-    let first : length (filter p (x ∷ xs)) ≡ cond (p x) (suc (length (filter p xs))) (length (filter p xs)) = count_is p x xs (p x) refl in
-    let second : length (filter q (x ∷ xs)) ≡ cond (q x) (suc (length (filter q xs))) (length (filter q xs)) = count_is q x xs (q x) refl in
-    let step = count_step (p x) (q x) (length (filter p xs)) (length (filter q xs)) (h x (inl refl)) (count-within p q xs (λ y here. h y (inr here))) in
-    subst (λ n. n ≤ length (filter q (x ∷ xs))) (sym first) (subst (λ n. cond (p x) (suc (length (filter p xs))) (length (filter p xs)) ≤ n) (sym second) step)
-
-either_step : (b c e : Bool) (n m k : ℕ) → (b ≡ true → (c ≡ true) ⊎ (e ≡ true)) → n ≤ m + k → cond b (suc n) n ≤ cond c (suc m) m + cond e (suc k) k
-either_step false false false n m k h less = less
-either_step false false true n m k h less = omega arith
-either_step false true false n m k h less = omega arith
-either_step false true true n m k h less = omega arith
-either_step true true false n m k h less = omega arith
-either_step true true true n m k h less = omega arith
-either_step true false true n m k h less = omega arith
-either_step true false false n m k h less = elim (h refl) [ inl e ↦ absurd (false≢true e) | inr e ↦ absurd (false≢true e) ]
-
--- where what passes a test passes one of two, no more pass it than pass these
-pub count-either : {A : Type 0} (p q r : A → Bool) (xs : List A) → ((x : A) → p x ≡ true → (q x ≡ true) ⊎ (r x ≡ true)) → length (filter p xs) ≤ length (filter q xs) + length (filter r xs)
-count-either p q r [] h = omega arith
-count-either p q r (x ∷ xs) h =
-    let first = count_is p x xs (p x) refl in
-    let second = count_is q x xs (q x) refl in
-    let third = count_is r x xs (r x) refl in
-    let step = either_step (p x) (q x) (r x) (length (filter p xs)) (length (filter q xs)) (length (filter r xs)) (h x) (count-either p q r xs h) in
-    joined (length (filter p (x ∷ xs))) (length (filter q (x ∷ xs))) (length (filter r (x ∷ xs))) _ _ _ first second third step
-  where
-    joined : (n m k a b c : ℕ) → n ≡ a → m ≡ b → k ≡ c → a ≤ b + c → n ≤ m + k
-    joined n m k a b c e f g h = omega arith
-
--- where no item passes, none is counted
-pub count-none : {A : Type 0} (p : A → Bool) (xs : List A) → ((x : A) → Among x xs → p x ≡ false) → length (filter p xs) ≡ 0
-count-none p [] h = refl
-count-none p (x ∷ xs) h = count_is p x xs false (h x (inl refl)) ∙ count-none p xs (λ y here. h y (inr here))
-
--- an item that passes is counted
-pub count-some : {A : Type 0} (p : A → Bool) (xs : List A) (x : A) → Among x xs → p x ≡ true → 1 ≤ length (filter p xs)
-count-some p [] x here e = absurd here
-count-some p (y ∷ ys) x (inl same) e = counted (length (filter p (y ∷ ys))) (length (filter p ys)) (count_is p y ys true (ap p (sym same) ∙ e))
-  where
-    counted : (n m : ℕ) → n ≡ suc m → 1 ≤ n
-    counted n m e = omega arith
-count-some p (y ∷ ys) x (inr here) e = more (p y) (length (filter p (y ∷ ys))) (length (filter p ys)) (count_is p y ys (p y) refl) (count-some p ys x here e)
-  where
-    more : (b : Bool) (n m : ℕ) → n ≡ cond b (suc m) m → 1 ≤ m → 1 ≤ n
-    more true n m e h = omega arith
-    more false n m e h = omega arith
 
 -- ---- numbers of an interval
 
 -- what the test says
 pub between_where : (a b v : ℤ) → is_between a b v ≡ true → (a ≤ℤ v) × (v ≤ℤ b)
-between_where a b v e = let both = and_parts (int_le a v) (int_le v b) e in (order a v both.0, order v b both.1)
-  where
-    order : (x y : ℤ) → int_le x y ≡ true → x ≤ℤ y
-    order x y e = omega (arith, ints)
+between_where a b v e = let both = and_parts (int_le a v) (int_le v b) e in (le-from_test a v both.0, le-from_test v b both.1)
 
 pub is_between_where : (a b v : ℤ) → a ≤ℤ v → v ≤ℤ b → is_between a b v ≡ true
-is_between_where a b v h k = and_from (int_le a v) (int_le v b) (sym (omega (arith, ints))) (sym (omega (arith, ints)))
+is_between_where a b v h k = and_from (int_le a v) (int_le v b) (test-from_le a v h) (test-from_le v b k)
 
 outside : (a b v : ℤ) (t : Bool) → is_between a b v ≡ t → ((a ≤ℤ v) × (v ≤ℤ b) → ⊥) → t ≡ false
 outside a b v true e h = absurd (h (between_where a b v e))
@@ -90,14 +27,11 @@ outside a b v false e h = refl
 -- a number of an interval is before its last, or is that
 last_or_before : (a b v : ℤ) → is_between a b v ≡ true → (is_between a (b -ℤ pos 1) v ≡ true) ⊎ (is_between b b v ≡ true)
 last_or_before a b v e = let inside = between_where a b v e in elim (cases_Bool (int_le b v)) [
-  | inl last ↦ inr (is_between_where b b v (least b v last) inside.1)
-  | inr before ↦ inl (is_between_where a (b -ℤ pos 1) v inside.0 (under b v before))
+  | inl last ↦ inr (is_between_where b b v (le-from_test b v last) inside.1)
+  | inr before ↦ inl (is_between_where a (b -ℤ pos 1) v inside.0 (under b v (lt-from_test b v before)))
 ]
   where
-    least : (b v : ℤ) → int_le b v ≡ true → b ≤ℤ v
-    least b v e = omega (arith, ints)
-
-    under : (b v : ℤ) → int_le b v ≡ false → v ≤ℤ (b -ℤ pos 1)
+    under : (b v : ℤ) → v <ℤ b → v ≤ℤ (b -ℤ pos 1)
     under b v e = omega (arith, ints)
 
 -- of different numbers at most one is b
@@ -144,6 +78,16 @@ size_by : (a b : ℤ) (z : ℤ) → ((b -ℤ a) +ℤ pos 1) ≡ z → a ≤ℤ b
 size_by a b (pos n) e h = (n, omega (arith, ints))
 size_by a b (negsuc n) e h = absurd (omega (arith, ints))
 
+-- what exceeds a count of numbers still does where there is more
+pub exceeds_more : (a b : ℤ) (n m : ℕ) → n ≤ m → Exceeds a b n → Exceeds a b m
+exceeds_more a b n m h exceeds = record { some = exceeds.some; more = further ((b -ℤ a) +ℤ pos 1) n m h exceeds.more }
+  where
+    further : (z : ℤ) (n m : ℕ) → n ≤ m → z <ℤ pos n → z <ℤ pos m
+    further z n m h k = omega (arith, ints)
+
+pub exceeds_same : (a b : ℤ) (n m : ℕ) → n ≡ m → Exceeds a b n → Exceeds a b m
+exceeds_same a b n m e exceeds = subst (λ k. Exceeds a b k) e exceeds
+
 -- more numbers of an interval than it has are not different at all positions
 pub pigeonhole : (a b : ℤ) (vs : List ℤ) → Exceeds a b (length (filter (is_between a b) vs)) → ¬ (AreDistinct vs)
 pigeonhole a b vs exceeds distinct =
@@ -166,7 +110,7 @@ distinct_or_twice (v ∷ vs) = elim (cases_Bool (is_among v vs)) [
 ]
   where
     is_own : (v : ℤ) → is_between v v v ≡ true
-    is_own v = is_between_where v v v (omega (arith, ints)) (omega (arith, ints))
+    is_own v = is_between_where v v v (le_itself v) (le_itself v)
 
     two : (n m : ℕ) → n ≡ suc m → 1 ≤ m → 2 ≤ n
     two n m e h = omega arith

@@ -14,50 +14,37 @@ use Rattle.dp_domain.specs.declared.term.Term.{Term}
 use Rattle.dp_domain.proofs.SetLaws.{least_from-among, least_from-bound, greatest_from-among, greatest_from-bound}
 use Rattle.dp_domain.proofs.TermLaws.{term_in_scope, term_values-local}
 use Rattle.dp_rule_alldiff.specs.AllDifferent.{Exceeds, is_between, lies_between, positions_between}
-use Rattle.dp_rule_alldiff.specs.PigeonLaws.{between_where, count-within, is_between_where}
+use Rattle.dp_rule_alldiff.specs.PigeonLaws.{between_where, is_between_where}
+use Rattle.dp_rule_alldiff.specs.CountLaws.{count-within, count_is}
+use Rattle.dp_rule_alldiff.specs.OrderLaws.{is_less_where, le_itself, le_through, less_where}
+use Rattle.dp_domain.proofs.AtomLaws.{le-from_test, test-from_le}
+use Rattle.std.specs.Cmp.{both_ways}
 use Rattle.dp_rule_alldiff.specs.Spans.{IsSpan, count_inside, has_crowd, is_crowded, is_crowded_from, is_inside, span_of, spans_of}
 
 -- ---- one set
 
 -- what the test says
 pub inside_where : (a b : ℤ) (s : ℤ × ℤ) → is_inside a b s ≡ true → (a ≤ℤ s.0) × (s.1 ≤ℤ b)
-inside_where a b s e = let both = and_parts (int_le a s.0) (int_le s.1 b) e in (order a s.0 both.0, order s.1 b both.1)
-  where
-    order : (x y : ℤ) → int_le x y ≡ true → x ≤ℤ y
-    order x y e = omega (arith, ints)
+inside_where a b s e = let both = and_parts (int_le a s.0) (int_le s.1 b) e in (le-from_test a s.0 both.0, le-from_test s.1 b both.1)
 
 pub is_inside_where : (a b : ℤ) (s : ℤ × ℤ) → a ≤ℤ s.0 → s.1 ≤ℤ b → is_inside a b s ≡ true
-is_inside_where a b s h k = and_from (int_le a s.0) (int_le s.1 b) (holds a s.0 h) (holds s.1 b k)
-  where
-    holds : (x y : ℤ) → x ≤ℤ y → int_le x y ≡ true
-    holds x y h = sym (omega (arith, ints))
-
-same_by : (x y : Bool) → (x ≡ true → y ≡ true) → (y ≡ true → x ≡ true) → x ≡ y
-same_by true y f g = sym (f refl)
-same_by false true f g = absurd (false≢true (g refl))
-same_by false false f g = refl
+is_inside_where a b s h k = and_from (int_le a s.0) (int_le s.1 b) (test-from_le a s.0 h) (test-from_le s.1 b k)
 
 -- a set lies in an interval exactly where its span does
 lies_inside : (a b v : ℤ) (vs : List ℤ) → lies_between a b (v ∷ vs) ≡ is_inside a b (least_from v vs, greatest_from v vs)
-lies_inside a b v vs = same_by (lies_between a b (v ∷ vs)) (is_inside a b (least_from v vs, greatest_from v vs))
+lies_inside a b v vs = both_ways (lies_between a b (v ∷ vs)) (is_inside a b (least_from v vs, greatest_from v vs))
     (λ e. is_inside_where a b (least_from v vs, greatest_from v vs)
     (between_where a b (least_from v vs) (list_all-at (is_between a b) (v ∷ vs) (least_from v vs) e (least_from-among v vs))).0
     (between_where a b (greatest_from v vs) (list_all-at (is_between a b) (v ∷ vs) (greatest_from v vs) e (greatest_from-among v vs))).1)
     (λ e. list_all-from (is_between a b) (v ∷ vs) (λ w here.
     let inside = inside_where a b (least_from v vs, greatest_from v vs) e in
     is_between_where a b w
-    (through a (least_from v vs) w inside.0 (least_from-bound v vs w here))
-    (through w (greatest_from v vs) b (greatest_from-bound v vs w here) inside.1)))
-  where
-    through : (x y z : ℤ) → x ≤ℤ y → y ≤ℤ z → x ≤ℤ z
-    through x y z h k = omega (arith, ints)
+    (le_through a (least_from v vs) w inside.0 (least_from-bound v vs w here))
+    (le_through w (greatest_from v vs) b (greatest_from-bound v vs w here) inside.1)))
 
 -- the first number of a span is at most the last
 span_ordered : (v : ℤ) (vs : List ℤ) → least_from v vs ≤ℤ greatest_from v vs
-span_ordered v vs = through (least_from v vs) v (greatest_from v vs) (least_from-bound v vs v (inl refl)) (greatest_from-bound v vs v (inl refl))
-  where
-    through : (x y z : ℤ) → x ≤ℤ y → y ≤ℤ z → x ≤ℤ z
-    through x y z h k = omega (arith, ints)
+span_ordered v vs = le_through (least_from v vs) v (greatest_from v vs) (least_from-bound v vs v (inl refl)) (greatest_from-bound v vs v (inl refl))
 
 -- ---- all positions
 
@@ -71,15 +58,11 @@ count_one a b (v ∷ vs) n ss e = counted (lies_between a b (v ∷ vs)) (is_insi
     counted false true n s ss e f = absurd (false≢true e)
     counted false false n s ss e f = f
 
-length_of : {A : Type 0} (b : Bool) (x : A) (xs : List A) → length (cond b (x ∷ xs) xs) ≡ cond b (suc (length xs)) (length xs)
-length_of true x xs = refl
-length_of false x xs = refl
-
 -- the positions with their whole set in an interval are those whose span lies in it
 pub positions_inside : (d : Domains) (terms : List Term) (a b : ℤ) → positions_between d terms a b ≡ count_inside (spans_of d terms) a b
 positions_inside d [] a b = refl
 positions_inside d (t ∷ terms) a b =
-    length_of (lies_between a b (term_values d t)) t (filter (λ u. lies_between a b (term_values d u)) terms)
+    count_is (λ u. lies_between a b (term_values d u)) t terms (lies_between a b (term_values d t)) refl
     ∙ count_one a b (term_values d t) (positions_between d terms a b) (spans_of d terms) (positions_inside d terms a b)
 
 ordered_one : (vs : List ℤ) (ss : List (ℤ × ℤ)) → Each IsSpan ss → Each IsSpan (cons_option (span_of vs) ss)
@@ -106,24 +89,12 @@ spans_local d e terms agrees =
 -- what the test says
 pub crowded_where : (ss : List (ℤ × ℤ)) (a b : ℤ) → is_crowded ss a b ≡ true → Exceeds a b (count_inside ss a b)
 crowded_where ss a b e = let both = and_parts (int_le a b) (int_lt ((b -ℤ a) +ℤ pos 1) (pos (count_inside ss a b))) e in record {
-  some = order a b both.0;
-  more = less ((b -ℤ a) +ℤ pos 1) (pos (count_inside ss a b)) both.1;
+  some = le-from_test a b both.0;
+  more = less_where ((b -ℤ a) +ℤ pos 1) (pos (count_inside ss a b)) both.1;
 }
-  where
-    order : (x y : ℤ) → int_le x y ≡ true → x ≤ℤ y
-    order x y e = omega (arith, ints)
-
-    less : (x y : ℤ) → int_lt x y ≡ true → x <ℤ y
-    less x y e = omega (arith, ints)
 
 pub is_crowded_where : (ss : List (ℤ × ℤ)) (a b : ℤ) → Exceeds a b (count_inside ss a b) → is_crowded ss a b ≡ true
-is_crowded_where ss a b exceeds = and_from (int_le a b) (int_lt ((b -ℤ a) +ℤ pos 1) (pos (count_inside ss a b))) (order a b exceeds.some) (less ((b -ℤ a) +ℤ pos 1) (pos (count_inside ss a b)) exceeds.more)
-  where
-    order : (x y : ℤ) → x ≤ℤ y → int_le x y ≡ true
-    order x y h = sym (omega (arith, ints))
-
-    less : (x y : ℤ) → x <ℤ y → int_lt x y ≡ true
-    less x y h = sym (omega (arith, ints))
+is_crowded_where ss a b exceeds = and_from (int_le a b) (int_lt ((b -ℤ a) +ℤ pos 1) (pos (count_inside ss a b))) (test-from_le a b exceeds.some) (is_less_where ((b -ℤ a) +ℤ pos 1) (pos (count_inside ss a b)) exceeds.more)
 
 Among-map_only : {A B : Type 0} (f : A → B) (xs : List A) (z : B) → Among z (map f xs) → (x : A) × Among x xs × (z ≡ f x)
 Among-map_only f [] z here = absurd here
@@ -169,12 +140,6 @@ tighter a b c e n m h i j k exceeds = record { some = i; more = fewer a b c e n 
     fewer : (a b c e : ℤ) (n m : ℕ) → a ≤ℤ c → e ≤ℤ b → n ≤ m → ((b -ℤ a) +ℤ pos 1) <ℤ pos n → ((e -ℤ c) +ℤ pos 1) <ℤ pos m
     fewer a b c e n m h j k l = omega (arith, ints)
 
-through : (x y z : ℤ) → x ≤ℤ y → y ≤ℤ z → x ≤ℤ z
-through x y z h k = omega (arith, ints)
-
-itself : (x : ℤ) → x ≤ℤ x
-itself x = omega (arith, ints)
-
 -- a crowded interval holds one to the last number of a span
 pub crowd_from : (ss : List (ℤ × ℤ)) (a b : ℤ) → Each IsSpan ss → Exceeds a b (count_inside ss a b) → is_crowded_from ss a ≡ true
 crowd_from ss a b ordered exceeds =
@@ -185,7 +150,7 @@ crowd_from ss a b ordered exceeds =
     is_inside_where a last.0.1 s (inside_where a b s inside).0 (last.2 s (Among-filter_all (is_inside a b) ss s here inside))) in
     list_any-at (λ (s : ℤ × ℤ). is_crowded ss a s.1) ss last.0 there.0
     (is_crowded_where ss a last.0.1
-    (tighter a b a last.0.1 (count_inside ss a b) (count_inside ss a last.0.1) (itself a) (through a last.0.0 last.0.1 ends.0 (Each-among IsSpan ss ordered last.0 there.0)) ends.1 more exceeds))
+    (tighter a b a last.0.1 (count_inside ss a b) (count_inside ss a last.0.1) (le_itself a) (le_through a last.0.0 last.0.1 ends.0 (Each-among IsSpan ss ordered last.0 there.0)) ends.1 more exceeds))
 
 -- where some interval is crowded, the test finds one, from the first number of a span
 pub crowd_at : (ss : List (ℤ × ℤ)) (a b : ℤ) → Each IsSpan ss → Exceeds a b (count_inside ss a b) → has_crowd ss ≡ true
@@ -197,7 +162,7 @@ crowd_at ss a b ordered exceeds =
     is_inside_where first.0.0 b s (first.2 s (Among-filter_all (is_inside a b) ss s here inside)) (inside_where a b s inside).1) in
     list_any-at (λ (s : ℤ × ℤ). is_crowded_from ss s.0) ss first.0 there.0
     (crowd_from ss first.0.0 b ordered
-    (tighter a b first.0.0 b (count_inside ss a b) (count_inside ss first.0.0 b) ends.0 (through first.0.0 first.0.1 b (Each-among IsSpan ss ordered first.0 there.0) ends.1) (itself b) more exceeds))
+    (tighter a b first.0.0 b (count_inside ss a b) (count_inside ss first.0.0 b) ends.0 (le_through first.0.0 first.0.1 b (Each-among IsSpan ss ordered first.0 there.0) ends.1) (le_itself b) more exceeds))
 
 -- what the test finds from a number is a crowded interval
 pub crowd_from_some : (ss : List (ℤ × ℤ)) (a : ℤ) → is_crowded_from ss a ≡ true → (b : ℤ) × Exceeds a b (count_inside ss a b)

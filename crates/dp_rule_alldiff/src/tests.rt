@@ -116,20 +116,30 @@ fn clashes(alloc: Global, terms: &[Term]) -> Result<bool, Memory> {
 }
 
 #[test]
-fn positions(rt: HostRuntime) -> Result<(), Fail> {
+fn two_positions(rt: HostRuntime) -> Result<(), Fail> {
+    for (first, second, wanted) in [
+        (Term::Const(3), Term::Const(3), true),
+        (Term::Const(3), Term::Const(4), false),
+        (Z, Z, true),
+        (Y, Y, false),
+        (Z, Term::Const(2), true),
+        (X, Y, false),
+    ] {
+        assert_eq!(rt;
+            clashes(rt.alloc(), &[first, second])?,
+            wanted,
+            "{first:?} {second:?}"
+        );
+    }
+    Ok(())
+}
+
+#[test]
+fn other_numbers_of_positions(rt: HostRuntime) -> Result<(), Fail> {
     let alloc = rt.alloc();
-    let number = Term::Const(3);
-    assert!(rt; !clashes(alloc, &[])?, "no term");
-    assert!(rt; !clashes(alloc, &[Z])?, "one term");
-    assert!(rt; clashes(alloc, &[number, number])?, "one number twice");
-    assert!(rt; !clashes(alloc, &[number, Term::Const(4)])?, "two numbers");
-    assert!(rt; clashes(alloc, &[Z, Z])?, "a fixed variable twice");
-    assert!(rt; !clashes(alloc, &[Y, Y])?, "a variable of two values twice");
-    assert!(rt; clashes(alloc, &[Y, Y, Y])?, "and three times");
-    assert!(rt;
-        clashes(alloc, &[Z, Term::Const(2)])?,
-        "a variable and its number"
-    );
+    assert!(rt; !clashes(alloc, &[])?, "none");
+    assert!(rt; !clashes(alloc, &[Z])?, "one");
+    assert!(rt; clashes(alloc, &[Y, Y, Y])?, "three of two values");
     assert!(rt; clashes(alloc, &[X, Y, Z, X])?, "four of three values");
     Ok(())
 }
@@ -179,15 +189,15 @@ fn turn<R: Rule>(rule: &R, state: &State) -> Result<Option<Found>, Memory> {
     counted::<R, Brand>(rule, state, Blank::new(1))
 }
 
-// The turn of these terms where x and y have the numbers between these ends.
+// The turn of two terms where x and y have the numbers between these ends.
 fn given(
     alloc: Global,
-    terms: &[Term],
+    terms: [Term; 2],
     x: (i64, i64),
     y: (i64, i64),
 ) -> Result<Option<Found>, Memory> {
     turn(
-        &all_different(alloc, terms)?,
+        &all_different(alloc, &terms)?,
         &state_of(alloc, x, y, (0, 9))?,
     )
 }
@@ -198,16 +208,21 @@ fn atom(var: u32, op: Op, value: i64) -> Option<Found> {
 
 #[test]
 fn turns(rt: HostRuntime) -> Result<(), Fail> {
-    let alloc = rt.alloc();
-    let twice = [X, X];
-    assert_eq!(rt; given(alloc, &twice, (0, 2), (0, 9))?, atom(0, Op::Ge, 1));
-    assert_eq!(rt; given(alloc, &twice, (1, 2), (0, 9))?, atom(0, Op::Ge, 2));
-    assert_eq!(rt; given(alloc, &twice, (2, 2), (0, 9))?, Some(Found::Clash));
-    let both = [Y, X];
-    assert_eq!(rt; given(alloc, &both, (0, 4), (2, 2))?, atom(0, Op::Ne, 2));
-    assert_eq!(rt; given(alloc, &both, (0, 4), (4, 4))?, atom(0, Op::Le, 3));
-    assert_eq!(rt; given(alloc, &both, (0, 0), (0, 4))?, atom(1, Op::Ge, 1));
-    assert_eq!(rt; given(alloc, &both, (0, 1), (0, 1))?, None);
+    for (terms, x, y, wanted) in [
+        ([X, X], (0, 2), (0, 9), atom(0, Op::Ge, 1)),
+        ([X, X], (1, 2), (0, 9), atom(0, Op::Ge, 2)),
+        ([X, X], (2, 2), (0, 9), Some(Found::Clash)),
+        ([Y, X], (0, 4), (2, 2), atom(0, Op::Ne, 2)),
+        ([Y, X], (0, 4), (4, 4), atom(0, Op::Le, 3)),
+        ([Y, X], (0, 0), (0, 4), atom(1, Op::Ge, 1)),
+        ([Y, X], (0, 1), (0, 1), None),
+    ] {
+        assert_eq!(rt;
+            given(rt.alloc(), terms, x, y)?,
+            wanted,
+            "{terms:?} {x:?} {y:?}"
+        );
+    }
     Ok(())
 }
 
