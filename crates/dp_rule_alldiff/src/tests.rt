@@ -189,15 +189,15 @@ fn turn<R: Rule>(rule: &R, state: &State) -> Result<Option<Found>, Memory> {
     counted::<R, Brand>(rule, state, Blank::new(1))
 }
 
-// The turn of two terms where x and y have the numbers between these ends.
+// The turn of x and another term where x and y have the numbers between these ends.
 fn given(
     alloc: Global,
-    terms: [Term; 2],
+    other: Term,
     x: (i64, i64),
     y: (i64, i64),
 ) -> Result<Option<Found>, Memory> {
     turn(
-        &all_different(alloc, &terms)?,
+        &all_different(alloc, &[other, X])?,
         &state_of(alloc, x, y, (0, 9))?,
     )
 }
@@ -208,19 +208,19 @@ fn atom(var: u32, op: Op, value: i64) -> Option<Found> {
 
 #[test]
 fn turns(rt: HostRuntime) -> Result<(), Fail> {
-    for (terms, x, y, wanted) in [
-        ([X, X], (0, 2), (0, 9), atom(0, Op::Ge, 1)),
-        ([X, X], (1, 2), (0, 9), atom(0, Op::Ge, 2)),
-        ([X, X], (2, 2), (0, 9), Some(Found::Clash)),
-        ([Y, X], (0, 4), (2, 2), atom(0, Op::Ne, 2)),
-        ([Y, X], (0, 4), (4, 4), atom(0, Op::Le, 3)),
-        ([Y, X], (0, 0), (0, 4), atom(1, Op::Ge, 1)),
-        ([Y, X], (0, 1), (0, 1), None),
+    for (other, x, y, wanted) in [
+        (X, (0, 2), (0, 9), atom(0, Op::Ge, 1)),
+        (X, (1, 2), (0, 9), atom(0, Op::Ge, 2)),
+        (X, (2, 2), (0, 9), Some(Found::Clash)),
+        (Y, (0, 4), (2, 2), atom(0, Op::Ne, 2)),
+        (Y, (0, 4), (4, 4), atom(0, Op::Le, 3)),
+        (Y, (0, 0), (0, 4), atom(1, Op::Ge, 1)),
+        (Y, (0, 1), (0, 1), None),
     ] {
         assert_eq!(rt;
-            given(rt.alloc(), terms, x, y)?,
+            given(rt.alloc(), other, x, y)?,
             wanted,
-            "{terms:?} {x:?} {y:?}"
+            "{other:?} {x:?} {y:?}"
         );
     }
     Ok(())
