@@ -111,5 +111,12 @@ fn begins_from(first: i64, span: &(i64, i64)) -> bool
 fn is_exceeded(first: i64, span: &(i64, i64), count: usize) -> bool
     ensures { result ≡ int_lt ((span.now.1 -ℤ first) +ℤ pos 1) (pos count) }
 {
-    i128::from(span.1) - i128::from(first) + 1 < count as i128
+    size(first, span.1) < count as i128
+}
+
+/// How many numbers there are from the first to the last; at most 0 where the last comes first.
+fn size(first: i64, last: i64) -> i128
+    ensures { result ≡ (last -ℤ first) +ℤ pos 1 }
+{
+    i128::from(last) - i128::from(first) + 1
 }
