@@ -6,6 +6,7 @@ ghost use Rattle.dp_parts.specs.Parts.{ClashesPart, MeetsPart, face_of, label_of
 ghost use Rattle.dp_parts.specs.PartLaws.{part_deciding, part_exact, part_lawful, part_sound};
 
 use dp_domain::{Atom, Found, Memory, Rule, State, Steps, Test, VarId};
+use dp_rule_alldiff::AllDiff;
 use dp_rule_clause::{Nogood, Within};
 use dp_rule_cumulative::Cumulative;
 use dp_rule_element::Element;
@@ -22,6 +23,7 @@ pub enum Part {
     Within(Within),
     Element(Element),
     Cumulative(Cumulative),
+    AllDiff(AllDiff),
 }
 
 impl Test for Part {
@@ -39,6 +41,7 @@ impl Test for Part {
             Part::Within(part) => part.scope_len(),
             Part::Element(part) => part.scope_len(),
             Part::Cumulative(part) => part.scope_len(),
+            Part::AllDiff(part) => part.scope_len(),
         }
     }
 
@@ -50,6 +53,7 @@ impl Test for Part {
             Part::Within(part) => part.scope_at(place),
             Part::Element(part) => part.scope_at(place),
             Part::Cumulative(part) => part.scope_at(place),
+            Part::AllDiff(part) => part.scope_at(place),
         }
     }
 
@@ -61,6 +65,7 @@ impl Test for Part {
             Part::Within(part) => part.is_point(var, value),
             Part::Element(part) => part.is_point(var, value),
             Part::Cumulative(part) => part.is_point(var, value),
+            Part::AllDiff(part) => part.is_point(var, value),
         }
     }
 
@@ -72,6 +77,7 @@ impl Test for Part {
             Part::Within(part) => part.clash(state),
             Part::Element(part) => part.clash(state),
             Part::Cumulative(part) => part.clash(state),
+            Part::AllDiff(part) => part.clash(state),
         }
     }
 
@@ -97,6 +103,7 @@ impl Rule for Part {
             Part::Within(part) => part.next(state, steps),
             Part::Element(part) => part.next(state, steps),
             Part::Cumulative(part) => part.next(state, steps),
+            Part::AllDiff(part) => part.next(state, steps),
         }
     }
 
@@ -113,6 +120,7 @@ impl Rule for Part {
             Part::Within(part) => part.explain(initial, now, target),
             Part::Element(part) => part.explain(initial, now, target),
             Part::Cumulative(part) => part.explain(initial, now, target),
+            Part::AllDiff(part) => part.explain(initial, now, target),
         }
     }
 }
@@ -128,6 +136,7 @@ pub fn label(part: &Part) -> &'static str
         Part::Within(_) => "domain",
         Part::Element(_) => "element",
         Part::Cumulative(_) => "time_table",
+        Part::AllDiff(_) => "all_different",
     }
 }
 
