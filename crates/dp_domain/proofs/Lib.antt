@@ -11,3 +11,4 @@ pub mod ShareLaws
 pub mod StateLaws
 pub mod TurnLaws
 pub mod TurnSteps
+pub mod TermLaws

@@ -5,3 +5,4 @@ pub mod Faces
 pub mod Conditions
 pub mod Turns
 pub mod Explanations
+pub mod Terms

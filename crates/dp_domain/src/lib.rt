@@ -9,6 +9,7 @@ mod found;
 mod rule;
 mod state;
 mod steps;
+mod term;
 mod turn;
 mod verdict;
 
@@ -20,6 +21,7 @@ pub use found::Found;
 pub use rule::{Rule, Test};
 pub use state::State;
 pub use steps::Steps;
+pub use term::{Term, term_scope};
 pub use turn::search_turn;
 pub use verdict::Verdict;
 

@@ -1,3 +1,2 @@
 pub mod AtomSteps
-pub mod ScopeSteps
 pub mod OrderSteps

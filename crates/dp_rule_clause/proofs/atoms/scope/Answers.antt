@@ -4,7 +4,7 @@ use Rattle.std.specs.List.{dedup}
 use Rattle.std.specs.Prelude.{nat_eq}
 use Rattle.dp_base.specs.Scopes.{in_order}
 use Rattle.smallvec.proofs.SmallVecLemmas.{items-with_items}
-use Rattle.dp_rule_clause.proofs.ScopeSteps.{sorted_scope}
+use Rattle.dp_base.proofs.ScopeSteps.{sorted_scope}
 use Rattle.dp_rule_clause.proofs.atoms.scope.Goals as goal
 
 pub returns-clause-scope : goal.returns-clause-scope

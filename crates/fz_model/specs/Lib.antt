@@ -1,0 +1,12 @@
+pub mod Annotations
+pub mod Arrays
+pub mod Constraints
+pub mod Context
+pub mod Items
+pub mod Literals
+pub mod Marks
+pub mod ModelText
+pub mod Table
+pub mod Words
+pub mod Models
+pub mod Limits
