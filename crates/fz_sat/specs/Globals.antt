@@ -24,8 +24,8 @@ weighted_sum coefficients numbers = total (map (λ p. p.0 *ℤ p.1) (zip coeffic
 abbrev pub IsEntryAt : List ℤ → ℤ → ℤ → Type 0
 IsEntryAt array index value = (place : ℕ) × (index ≡ pos (place + 1)) × (slice_get array place ≡ Some value)
 
--- the entry at the index, if there is one
-abbrev pub entry_at : List ℤ → ℤ → Option ℤ
+-- the entry at the index, counted from 1, if there is one
+abbrev pub entry_at : {A : Type 0} → List A → ℤ → Option A
 entry_at array (pos zero) = None
 entry_at array (pos (suc place)) = slice_get array place
 entry_at array (negsuc n) = None

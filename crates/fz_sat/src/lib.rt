@@ -2,5 +2,17 @@
 #![tactic(auto)]
 
 mod args;
+mod booleans;
+
+mod element;
+
+
+mod global;
+mod linear;
+mod row;
+mod schedule;
+mod wide;
+
 
 pub use args::{arg_elements, arg_set, arg_term, is_in_set, term_of};
+

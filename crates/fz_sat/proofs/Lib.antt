@@ -1,0 +1,5 @@
+pub mod Rows
+pub mod Products
+pub mod Sums
+pub mod Wides
+pub mod Distinct
