@@ -3,3 +3,4 @@ pub mod Products
 pub mod Sums
 pub mod Wides
 pub mod Distinct
+pub mod Usages

@@ -81,7 +81,10 @@ KeepsCapacity tasks capacity = (t : ℤ) → usage_at t tasks ≤ℤ capacity
 abbrev pub keeps_at : List Task → ℤ → ℤ → Bool
 keeps_at tasks capacity t = int_le (usage_at t tasks) capacity
 
+-- whether they do so where the task starts and where it ends
+abbrev pub keeps_around : List Task → ℤ → Task → Bool
+keeps_around tasks capacity k = keeps_at tasks capacity k.start && keeps_at tasks capacity (end_of k)
+
 -- the same as a test: where no task runs, and wherever one starts or ends
 abbrev pub keeps_capacity : List Task → ℤ → Bool
-keeps_capacity tasks capacity =
-    int_le (pos 0) capacity && list_all (λ k. keeps_at tasks capacity k.start && keeps_at tasks capacity (end_of k)) tasks
+keeps_capacity tasks capacity = int_le (pos 0) capacity && list_all (keeps_around tasks capacity) tasks

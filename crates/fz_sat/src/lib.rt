@@ -4,6 +4,8 @@
 mod args;
 mod booleans;
 
+mod constraints;
+mod domains;
 mod element;
 
 

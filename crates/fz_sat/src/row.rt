@@ -12,7 +12,7 @@ use dp_domain::{Term, VarId};
 use fz_model::{Basic, Expr, Item};
 
 /// The value of the variable; 0 where the assignment has none for it.
-fn value_of_variable(values: &[i64], var: VarId) -> i64
+pub fn value_of_variable(values: &[i64], var: VarId) -> i64
     ensures { result ≡ valuation values.now var }
 {
     values.get(var.0 as usize).copied().unwrap_or(0)

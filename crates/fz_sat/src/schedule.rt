@@ -1,15 +1,16 @@
 //! Tasks that share a capacity.
 
 ghost use Rattle.std.specs.Prelude.{◌≡◌, ◌^◌, ◌*◌, ◌<◌, length, min, FitsSigned, ℤ, pos, ◌+ℤ◌, ℕ};
-ghost use Rattle.fz_sat.specs.Globals.{keeps_at, keeps_capacity, runs_at, usage_at};
+ghost use Rattle.fz_sat.specs.Globals.{keeps_around, keeps_at, keeps_capacity, runs_at, usage_at};
 ghost use Rattle.fz_sat.specs.Meaning.{given, schedule_of};
 ghost use Rattle.fz_sat.specs.Satisfies.{valuation, value_of};
-ghost use Rattle.fz_sat.specs.Schedules.{HasTask, element_at, element_tasks, task_at, triple_at};
+ghost use Rattle.fz_sat.specs.Schedules.{HasTask, element_at, element_tasks, task_at, triple_at, used_by};
 
 use crate::row::{Row, value_of};
 use fz_model::{Basic, Item};
 
 /// The elements that give the starts, durations and uses of tasks, and how much the tasks may use together.
+#[derive(Clone, Copy)]
 struct Schedule<'a> {
     items: &'a [Item],
     values: &'a [i64],
@@ -28,11 +29,11 @@ impl<'a> Schedule<'a> {
     }
 
     /// The time at which the task starts.
-    fn start(&self, place: usize) -> i128
+    fn start(&self, place: usize) -> i64
         requires { HasTask self.now.starts.now self.now.durations.now self.now.uses.now place }
         ensures { result ≡ value_of self.now.items.now (valuation self.now.values.now) (element_at self.now.starts.now place) }
     {
-        i128::from(value_of(self.items, self.values, self.starts[place]))
+        value_of(self.items, self.values, self.starts[place])
     }
 
     /// The time at which the task no longer runs.
@@ -43,7 +44,7 @@ impl<'a> Schedule<'a> {
             result ≡ value_of self.now.items.now s (element_at self.now.starts.now place) +ℤ value_of self.now.items.now s (element_at self.now.durations.now place)
         }
     {
-        self.start(place) + i128::from(value_of(self.items, self.values, self.durations[place]))
+        i128::from(self.start(place)) + i128::from(value_of(self.items, self.values, self.durations[place]))
     }
 
     /// Whether the task runs at the time.
@@ -54,7 +55,22 @@ impl<'a> Schedule<'a> {
             result ≡ runs_at time (task_at self.now.items.now (valuation self.now.values.now) task)
         }
     {
-        self.start(place) <= time && time < self.end(place)
+        i128::from(self.start(place)) <= time && time < self.end(place)
+    }
+
+    /// How much the task uses at the time.
+    fn used_by(&self, time: i128, place: usize) -> i64
+        requires { HasTask self.now.starts.now self.now.durations.now self.now.uses.now place }
+        ensures {
+            let task = triple_at self.now.starts.now self.now.durations.now self.now.uses.now place in
+            result ≡ used_by time (task_at self.now.items.now (valuation self.now.values.now) task)
+        }
+    {
+        if self.runs_at(time, place) {
+            value_of(self.items, self.values, self.uses[place])
+        } else {
+            0
+        }
     }
 
     /// How much the tasks that run at the time use together.
@@ -66,9 +82,7 @@ impl<'a> Schedule<'a> {
     {
         let mut usage = 0;
         for place in 0..self.len() {
-            if self.runs_at(time, place) {
-                usage += i128::from(value_of(self.items, self.values, self.uses[place]));
-            }
+            usage += i128::from(self.used_by(time, place));
         }
         usage
     }
@@ -83,6 +97,19 @@ impl<'a> Schedule<'a> {
         self.usage_at(time) <= i128::from(self.capacity)
     }
 
+    /// Whether the tasks keep the capacity where this one starts and where it ends.
+    fn keeps_around(&self, place: usize) -> bool
+        requires { HasTask self.now.starts.now self.now.durations.now self.now.uses.now place }
+        ensures {
+            let s = valuation self.now.values.now in
+            let tasks = element_tasks self.now.items.now s self.now.starts.now self.now.durations.now self.now.uses.now in
+            let task = triple_at self.now.starts.now self.now.durations.now self.now.uses.now place in
+            result ≡ keeps_around tasks self.now.capacity (task_at self.now.items.now s task)
+        }
+    {
+        self.keeps_at(i128::from(self.start(place))) && self.keeps_at(self.end(place))
+    }
+
     /// Whether the tasks keep the capacity at all times: where none runs, and wherever one starts or ends.
     fn keeps(&self) -> bool
         ensures {
@@ -94,7 +121,7 @@ impl<'a> Schedule<'a> {
             return false;
         }
         for place in 0..self.len() {
-            if !self.keeps_at(self.start(place)) || !self.keeps_at(self.end(place)) {
+            if !self.keeps_around(place) {
                 return false;
             }
         }
