@@ -26,7 +26,7 @@ rest_of xs i n e = ap (λ m. take m (drop i xs)) e ∙ take_rest xs i
 pub distinct_step : {A : Type 0} (f : A → ℤ) (xs : List A) (i n : ℕ) (d : A) (v : ℤ) (r : Bool) → i < length xs → n ≡ length xs - (i + 1) → v ≡ f (get_or xs i d) → r ≡ list_any (λ b. int_eq (f b) v) (take n (drop (i + 1) xs)) → are_distinct (map f (drop i xs)) ≡ (not r && are_distinct (map f (drop (i + 1) xs)))
 distinct_step f xs i n d v r h k e g =
     let found : r ≡ is_among (f (get_or xs i d)) (map f (drop (i + 1) xs)) =
-        g ∙ ap (list_any (λ b. int_eq (f b) v)) (rest_of xs (i + 1) n k) ∙ among_values f (drop (i + 1) xs) v ∙ ap (λ w. is_among w (map f (drop (i + 1) xs))) e in
+    g ∙ ap (list_any (λ b. int_eq (f b) v)) (rest_of xs (i + 1) n k) ∙ among_values f (drop (i + 1) xs) v ∙ ap (λ w. is_among w (map f (drop (i + 1) xs))) e in
     at_drop_more (λ ys. are_distinct (map f ys)) xs i d h ∙ ap (λ b. not b && are_distinct (map f (drop (i + 1) xs))) (sym found)
 
 -- none are left at the end

@@ -61,6 +61,7 @@ usage_first t k tasks = by_case (runs_at t k) k.usage (filter (runs_at t) tasks)
   where
     none_added : (z : ℤ) → z ≡ pos 0 +ℤ z
     none_added z = omega (arith, ints)
+
     by_case : (r : Bool) (u : ℤ) (others : List Task) → total (map (λ (j : Task). j.usage) (if r then k ∷ others else others)) ≡ (if r then k.usage else pos 0) +ℤ total (map (λ (j : Task). j.usage) others)
     by_case true u others = refl
     by_case false u others = none_added (total (map (λ (j : Task). j.usage) others))
