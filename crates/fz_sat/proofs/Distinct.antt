@@ -1,9 +1,9 @@
 -- Numbers that differ, tested from the front.
-use Rattle.std.proofs.Common.{◌≡◌, ℕ, ◌+◌, ◌-◌, ◌<◌, ◌≤◌, Bool, true, false, not, ◌&&◌, ◌||◌, length, get_or, take, drop, List, [], ◌∷◌, map, ℤ, int_le, refl, sym, ◌∙◌, ap, arith}
+use Rattle.std.proofs.Common.{◌≡◌, ℕ, ◌+◌, ◌-◌, ◌<◌, ◌≤◌, Bool, true, not, ◌&&◌, ◌||◌, length, get_or, take, drop, List, [], ◌∷◌, map, ℤ, int_le, refl, sym, ◌∙◌, ap}
 use Rattle.std.specs.List.{list_any}
 use Rattle.std.specs.Ordering.{int_eq}
 use Rattle.std.proofs.lemmas.Bool.Decides.{Decides-int_eq, same_from_decides}
-use Rattle.std.proofs.lemmas.List.{at_drop_more, at_drop_all, take_rest, length-drop}
+use Rattle.std.proofs.lemmas.List.{at_drop_more, at_drop_all, take_rest}
 use Rattle.dp_domain.specs.Sets.{is_among}
 use Rattle.dp_domain.proofs.AtomLaws.{same-from_tests, tests-from_same}
 use Rattle.fz_sat.specs.Globals.{are_distinct}

@@ -1,15 +1,14 @@
 -- The test of each constraint is true exactly where its meaning holds.
-use Rattle.std.proofs.Common.{◌≡◌, ℕ, zero, suc, ◌+◌, Bool, true, false, not, ◌&&◌, ◌↔◌, IsTrue, Option, Some, None, List, [], ◌∷◌, slice_get, ℤ, pos, negsuc, refl, sym, ◌∙◌, ap, subst, arith}
+use Rattle.std.proofs.Common.{◌≡◌, ℕ, zero, suc, ◌+◌, Bool, true, false, not, ◌↔◌, IsTrue, Option, Some, None, List, [], ◌∷◌, slice_get, ℤ, pos, negsuc, refl, sym, ◌∙◌, ap, subst, arith}
 use Rattle.std.specs.Option.{option_map_or}
 use Rattle.std.specs.Ordering.{int_eq}
 use Rattle.std.proofs.lemmas.Bool.{false≢true, and_from, and_parts, both_ways, false_from_ne_true, not_from_false}
 use Rattle.std.proofs.lemmas.Bool.Decides.{Decides-int_eq}
-use Rattle.dp_base.specs.Lists.{Among}
 use Rattle.dp_domain.specs.Sets.{is_among}
 use Rattle.dp_domain.proofs.ShareLaws.{is_among-at, is_among-some}
 use Rattle.fz_model.specs.declared.kinds.ConstraintKind.{ConstraintKind}
 use Rattle.fz_model.specs.declared.kinds.ConstraintKind.TheVariants as of
-use Rattle.fz_sat.specs.Globals.{AreDistinct, IsEntryAt, are_distinct, entry_at, is_entry_at, tasks_of}
+use Rattle.fz_sat.specs.Globals.{AreDistinct, IsEntryAt, are_distinct, is_entry_at, tasks_of}
 use Rattle.fz_sat.specs.Meaning.{Given, Meaning, holds}
 use Rattle.fz_sat.proofs.Capacity.{capacity_exact}
 

@@ -1,5 +1,5 @@
 -- The test of a model is true exactly where an assignment satisfies it.
-use Rattle.std.proofs.Common.{◌≡◌, ℕ, Bool, true, false, ◌&&◌, ◌↔◌, IsTrue, MatchOption, Option, Some, None, List, ℤ, refl, sym, ◌∙◌, ap}
+use Rattle.std.proofs.Common.{◌≡◌, ℕ, Bool, false, ◌&&◌, ◌↔◌, IsTrue, MatchOption, Option, Some, None, List, ℤ, refl, sym, ◌∙◌, ap}
 use Rattle.std.specs.List.{list_all}
 use Rattle.std.specs.Option.{option_map_or}
 use Rattle.std.proofs.lemmas.Bool.{false≢true, and_from, and_parts}

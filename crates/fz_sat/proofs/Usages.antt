@@ -2,16 +2,15 @@
 use Rattle.std.proofs.Common.{◌≡◌, ℕ, ◌+◌, ◌*◌, ◌^◌, ◌<◌, ◌≤◌, min, Bool, true, false, ◌&&◌, if◌then◌else◌, length, get_or, drop, List, [], ◌∷◌, map, ℤ, pos, ◌+ℤ◌, ◌≤ℤ◌, int_le, refl, sym, ◌∙◌, ap, subst, arith}
 use Rattle.std.specs.List.{filter, list_all, zip}
 use Rattle.std.proofs.lemmas.Int.{ints}
-use Rattle.std.proofs.lemmas.List.{at_drop_more, at_drop_all, length-map}
+use Rattle.std.proofs.lemmas.List.{at_drop_more, at_drop_all}
 use Rattle.std.proofs.lemmas.Slice.Zip.{length-zip, get_or-zip}
 use Rattle.fz_model.specs.declared.model.Basic.{Basic}
 use Rattle.fz_model.specs.declared.model.Basic.TheVariants as basic
 use Rattle.fz_model.specs.declared.model.Item.{Item}
 use Rattle.dp_domain.specs.Terms.{term_at}
 use Rattle.fz_sat.specs.Args.{terms_of}
-use Rattle.fz_sat.specs.Globals.{Task, keeps_around, keeps_capacity, runs_at, task_of, tasks_of, total, usage_at}
-use Rattle.fz_sat.specs.Satisfies.{value_of}
-use Rattle.fz_sat.specs.Schedules.{HasTask, element_at, element_tasks, task_at, triple_at, used_by}
+use Rattle.fz_sat.specs.Globals.{Task, keeps_around, keeps_capacity, runs_at, tasks_of, total, usage_at}
+use Rattle.fz_sat.specs.Schedules.{HasTask, element_tasks, task_at, triple_at, used_by}
 use Rattle.fz_sat.specs.Sums.{IsBounded}
 
 -- ---- the tasks of the elements

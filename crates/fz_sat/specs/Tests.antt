@@ -1,12 +1,10 @@
 -- The same as a test: whether an assignment satisfies a model.
-use Rattle.std.specs.Prelude.{ℕ, Bool, false, ◌&&◌, List, ℤ}
-use Rattle.std.specs.List.{list_all}
+use Rattle.std.specs.Prelude.{ℕ, Bool, false, List, ℤ}
 use Rattle.std.specs.Option.{option_map_or}
 use Rattle.fz_model.specs.Table.{constraint_of}
 use Rattle.fz_model.specs.declared.model.Constraint.{Constraint}
 use Rattle.fz_model.specs.declared.model.Item.{Item}
 use Rattle.fz_sat.specs.Meaning.{given, holds}
-use Rattle.fz_sat.specs.Satisfies.{is_kept}
 
 -- whether the assignment meets the constraint
 abbrev pub is_met : List Item → (ℕ → ℤ) → Constraint → Bool
