@@ -43,6 +43,10 @@ owns_later : (items more xs : List Item) → Each (IsPlaced items) xs → Each (
 owns_later items more [] h = tt
 owns_later items more (x ∷ xs) h = (own_later items more x h.0, owns_later items more xs h.1)
 
+-- so many are variables of their own, with more items too
+pub owns_same : (items more xs : List Item) → Each (IsPlaced items) xs → length (filter (is_own (items ++ more)) xs) ≡ length (filter (is_own items) xs)
+owns_same items more xs h = ap (λ (ys : List Item). length ys) (filter_same (is_own (items ++ more)) (is_own items) xs (owns_later items more xs h))
+
 -- one or none
 abbrev pub one_if : Bool → ℕ
 one_if b = if b then 1 else 0
@@ -56,7 +60,7 @@ count-push items i h =
     let own = is_own (items ++ i ∷ []) in
     ap (λ (xs : List Item). length xs) (filter-append own items (i ∷ []))
     ∙ length-append (filter own items) (filter own (i ∷ []))
-    ∙ ap (λ (xs : List Item). length xs + length (filter own (i ∷ []))) (filter_same own (is_own items) items (owns_later items (i ∷ []) items h))
+    ∙ ap (λ n. n + length (filter own (i ∷ []))) (owns_same items (i ∷ []) items h)
     ∙ ap (λ n. count_variables items + n) (length_if (own i) i)
 
 -- ---- which are Boolean

@@ -1,3 +1,4 @@
+pub mod Apart
 pub mod Counting
 pub mod Faults
 pub mod Finding
@@ -5,3 +6,6 @@ pub mod Later
 pub mod Pairs
 pub mod Passes
 pub mod Shown
+pub mod Steps
+pub mod Tested
+pub mod Typed
