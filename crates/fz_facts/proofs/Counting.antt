@@ -10,6 +10,7 @@ use Rattle.fz_model.specs.declared.model.Basic.{Basic}
 use Rattle.fz_model.specs.declared.model.Basic.TheVariants as basic
 use Rattle.fz_model.specs.declared.model.Item.{Item}
 use Rattle.fz_model.specs.declared.model.Item.TheVariants as item
+use Rattle.fz_model.specs.declared.model.VarType.{VarType}
 use Rattle.fz_facts.specs.Declared.{declares_bool, is_boolean}
 use Rattle.fz_facts.specs.Facts.{AreNumbered, IsNumbered}
 use Rattle.fz_facts.proofs.Pairs.{slice_get-append}
@@ -26,14 +27,18 @@ named_at items more (basic.Item place) h = ap variable_of_item (slice_get-append
 named_at items more (basic.Bool v) h = refl
 named_at items more (basic.Int v) h = refl
 
+pub named_later : (items more : List Item) (name : List ℕ) (kind : VarType) (output : Bool) (value : Option Basic) (var : ℕ)
+    → IsPlaced items (item.Var name kind output value var) → named_variable (items ++ more) value ≡ named_variable items value
+named_later items more name kind output None var h = refl
+named_later items more name kind output (Some b) var h = named_at items more b h.0
+
 pub own_later : (items more : List Item) (i : Item) → IsPlaced items i → is_own (items ++ more) i ≡ is_own items i
 own_later items more (item.Int name value) h = refl
 own_later items more (item.Bool name value) h = refl
 own_later items more (item.Set name s) h = refl
 own_later items more (item.Consts name bools elements) h = refl
 own_later items more (item.Vars name kind output elements) h = refl
-own_later items more (item.Var name kind output None var) h = refl
-own_later items more (item.Var name kind output (Some b) var) h = ap is_none (named_at items more b h.0)
+own_later items more (item.Var name kind output value var) h = ap is_none (named_later items more name kind output value var h)
 
 filter_same : (p q : Item → Bool) (xs : List Item) → Each (λ x. p x ≡ q x) xs → filter p xs ≡ filter q xs
 filter_same p q [] h = refl

@@ -9,3 +9,4 @@ pub mod Shown
 pub mod Steps
 pub mod Tested
 pub mod Typed
+pub mod VariableSteps
