@@ -1,11 +1,14 @@
 pub mod Apart
+pub mod ArraySteps
 pub mod Counting
+pub mod Elements
 pub mod Faults
 pub mod Finding
 pub mod Later
 pub mod Pairs
 pub mod Passes
 pub mod Shown
+pub mod SmallTypes
 pub mod Steps
 pub mod Tested
 pub mod Typed
