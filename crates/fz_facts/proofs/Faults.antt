@@ -1,5 +1,7 @@
 -- What has no fault has parts that have none: chains, leaves, lists, and what stands behind annotations.
 use Rattle.std.proofs.Common.{◌≡◌, ◌⊎◌, inl, inr, List, [], ◌∷◌, ◌++◌, ℕ, Option, Some, None, refl, sym, subst, append_assoc, append-nil}
+use Rattle.dp_base.specs.Lists.{Each}
+use Rattle.dp_base.proofs.Lists.{Each-append_parts}
 use Rattle.dp_grammar.specs.Chain.{first_fault, chain, before_mark}
 use Rattle.dp_grammar.specs.Choice.{either}
 use Rattle.dp_grammar.specs.Grammar.{Grammar}
@@ -71,3 +73,16 @@ annotated_end close (inl p) e =
     let q = links_parts (annotation_link close) [] p.0 p.1 e in
     link_end close p.0 p.1.0.name p.1.0.args p.1.1 q.1
 annotated_end close (inr c) e = ([], e)
+
+-- ---- spellings
+
+spelled_links : {T F X C : Type 0} (P : T → Type 0) (link : Link T F X C) (kept xs : List X) (c : C) → Each P (spell_behind link kept xs c)
+    → EachBehind (λ before x. Each P ((link before).spell (inl x))) kept xs
+spelled_links P link kept [] c h = tt
+spelled_links P link kept (x ∷ xs) c h =
+    let p = Each-append_parts P ((link kept).spell (inl x)) (spell_behind link (kept ++ x ∷ []) xs c) h in
+    (p.0, spelled_links P link (kept ++ x ∷ []) xs c p.1)
+
+-- what holds of each token of a spelling holds of those of each item
+pub many_spelled : {T F X C : Type 0} (P : T → Type 0) (r : Repeat T F X C) (p : List X × C) → Each P ((many r).spell p) → EachBehind (λ before x. Each P ((r.item before).spell x)) [] p.0
+many_spelled P r p h = spelled_links P (λ kept. either r.goes_on (r.item kept) (r.close kept)) [] p.0 p.1 h

@@ -4,6 +4,7 @@ pub mod Counting
 pub mod Elements
 pub mod Faults
 pub mod Finding
+pub mod ItemSteps
 pub mod Later
 pub mod Pairs
 pub mod Passes
@@ -12,4 +13,5 @@ pub mod SmallTypes
 pub mod Steps
 pub mod Tested
 pub mod Typed
+pub mod VariableFacts
 pub mod VariableSteps
