@@ -4,6 +4,7 @@ pub mod Counting
 pub mod Elements
 pub mod Faults
 pub mod Finding
+pub mod Fits
 pub mod ItemSteps
 pub mod Later
 pub mod Pairs
