@@ -98,7 +98,7 @@ module _ (items : List Item) where
       let same : length (terms_of items elements) ≡ length elements = length-map elements (term_of items) in
       record { few = omega (arith, few, same); each = h }
 
-  meant_terms : {A : Type 0} (R : A → Basic → Type 0) (P : Term → Type 0) → ((x : A) (b : Basic) → R x b → P (term_of items b))
+  pub meant_terms : {A : Type 0} (R : A → Basic → Type 0) (P : Term → Type 0) → ((x : A) (b : Basic) → R x b → P (term_of items b))
       → (meant : List A) (elements : List Basic) → AreMeant R meant elements → AreFew P (terms_of items elements)
   meant_terms R P h meant elements a = few_terms P elements a.few (each_term R P h meant elements a.each)
 
@@ -118,7 +118,7 @@ module _ (items : List Item) where
       let q = or_parts (not (is_none (test v))) (list_any (is_refused test) os) r in
       (subst P (sym p.0) (h v (passes (test v) q.0)), passed_consts test P h os bs n q.1 p.1)
 
-  const_terms : (variable : Fault) (test : ℤ → Option Fault) (P : Term → Type 0) → ((v : ℤ) → test v ≡ None → P (Const v)) → (m : Meant) (b : Basic)
+  pub const_terms : (variable : Fault) (test : ℤ → Option Fault) (P : Term → Type 0) → ((v : ℤ) → test v ≡ None → P (Const v)) → (m : Meant) (b : Basic)
       → constants_test variable test m ≡ None → Stated items m b → AreFew P (terms_of items (elements_of_basic items b))
   const_terms variable test P h (IntArray parameter meant) b e s =
       let p = neither (refuse_if (list_any is_none meant) variable) (each_test test meant) e in

@@ -16,3 +16,4 @@ pub mod Tested
 pub mod Typed
 pub mod VariableFacts
 pub mod VariableSteps
+pub mod Wanted
