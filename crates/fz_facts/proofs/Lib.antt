@@ -1,4 +1,5 @@
 pub mod Apart
+pub mod Arguments
 pub mod ArraySteps
 pub mod Counting
 pub mod Elements
@@ -9,6 +10,7 @@ pub mod ItemSteps
 pub mod Later
 pub mod Pairs
 pub mod Passes
+pub mod Places
 pub mod Shown
 pub mod SmallTypes
 pub mod Steps

@@ -32,7 +32,7 @@ is_fresh (Some m) e = absurd cc
 
 -- ---- numbers
 
-not_above : (a b : ℕ) → nat_lt a b ≡ false → b ≤ a
+pub not_above : (a b : ℕ) → nat_lt a b ≡ false → b ≤ a
 not_above a b e = grind (arith, nat_tests)
 
 below : (a b : ℕ) → nat_le a b ≡ false → b < a
