@@ -1,6 +1,7 @@
 pub mod Apart
 pub mod Arguments
 pub mod ArraySteps
+pub mod ConstraintFacts
 pub mod Counting
 pub mod Elements
 pub mod Faults
@@ -19,3 +20,4 @@ pub mod Typed
 pub mod VariableFacts
 pub mod VariableSteps
 pub mod Wanted
+pub mod WellFormed
