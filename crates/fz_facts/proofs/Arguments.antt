@@ -1,11 +1,11 @@
 -- An argument without fault fits where it stands, and an array has the length that the words have.
-use Rattle.std.proofs.Common.{◌≡◌, ℕ, Bool, true, false, not, ◌⊎◌, inl, inr, Option, Some, None, List, [], ◌∷◌, length, ℤ, refl, sym, ap, subst, ◌∙◌}
+use Rattle.std.proofs.Common.{◌≡◌, ℕ, Bool, true, false, not, inl, inr, Option, Some, None, List, [], ◌∷◌, length, ℤ, refl, sym, ap, ◌∙◌}
 use Rattle.std.proofs.lemmas.List.{length-map}
 use Rattle.dp_grammar.specs.Brackets.{Plain, Opens}
 use Rattle.dp_grammar.specs.Chain.{behind_mark}
 use Rattle.dp_grammar.specs.Leaf.{Leaf, leaf, tested_mark}
 use Rattle.dp_grammar.specs.Listed.{Listing, listed}
-use Rattle.fz_model.specs.Constraints.{ArgText, ArgWords, arg_basic, arg_word, argument, argument_test, array_length, dotted_of, element_test, meant_length, wanted_test, wants_array, wants_set}
+use Rattle.fz_model.specs.Constraints.{ArgText, ArgWords, arg_basic, arg_word, argument, argument_test, array_length, dotted_of, element_test, meant_length, wants_array, wants_set}
 use Rattle.fz_model.specs.Context.{BasicText, Context, known, meaning, one_more}
 use Rattle.fz_model.specs.Items.{IntText, basic}
 use Rattle.fz_model.specs.Limits.{no_test, or_else, refuse_if}
@@ -17,16 +17,14 @@ use Rattle.fz_model.specs.declared.fault.Fault.{Fault}
 use Rattle.fz_model.specs.declared.fault.Fault.TheVariants.{Kind}
 use Rattle.fz_model.specs.declared.kinds.ArgKind.{ArgKind}
 use Rattle.fz_model.specs.declared.kinds.ArgKind.TheVariants as arg
-use Rattle.fz_model.specs.declared.meant.Meant.{Meant}
-use Rattle.fz_model.specs.declared.model.Basic.{Basic}
 use Rattle.fz_model.specs.declared.model.Item.{Item}
 use Rattle.fz_sat.specs.Args.{elements_of_expr, term_of, term_of_expr, terms_of}
 use Rattle.fz_facts.proofs.Elements.{counting, each_element, few_elements, same_meaning}
 use Rattle.fz_facts.proofs.Faults.{chain_parts, listed_parts, test_passes}
 use Rattle.fz_facts.proofs.Finding.{stated}
 use Rattle.fz_facts.proofs.Fits.{Fits}
-use Rattle.fz_facts.proofs.Passes.{is_known, not_refused}
-use Rattle.fz_facts.proofs.Shown.{IsRight, Stated}
+use Rattle.fz_facts.proofs.Passes.{is_known}
+use Rattle.fz_facts.proofs.Shown.{IsRight}
 use Rattle.fz_facts.proofs.Wanted.{elements_fit, set_fits, wanted_fits, wanted_long}
 
 -- the argument is what is wanted; and where that is an array, its words have the length of its terms

@@ -1,7 +1,5 @@
 -- An array behind the items.
-use Rattle.std.proofs.Common.{◌≡◌, ℕ, ◌+◌, Bool, true, false, if◌then◌else◌, ◌⊎◌, inl, inr, Option, Some, None, List, [], ◌∷◌, ◌++◌, length, map, ℤ, not, refl, sym, ap, subst, ◌∙◌}
-use Rattle.dp_base.specs.Lists.{Each}
-use Rattle.dp_domain.specs.declared.term.Term.TheVariants.{Const}
+use Rattle.std.proofs.Common.{◌≡◌, ℕ, ◌+◌, Bool, true, false, if◌then◌else◌, ◌⊎◌, inl, inr, Option, Some, None, List, [], ◌∷◌, ◌++◌, length, ℤ, not, refl, sym, subst}
 use Rattle.fz_token.specs.declared.Keyword.TheVariants as key
 use Rattle.dp_grammar.specs.Brackets.{Plain, Closes}
 use Rattle.dp_grammar.specs.Chain.{behind_mark, chain}
@@ -21,16 +19,15 @@ use Rattle.fz_model.specs.Words.{Comma, Colon, Semicolon, Square, Stop, Word}
 use Rattle.fz_model.specs.declared.fault.Fault.{Fault}
 use Rattle.fz_model.specs.declared.fault.Fault.TheVariants.{Kind}
 use Rattle.fz_model.specs.declared.meant.Meant.{Meant}
-use Rattle.fz_model.specs.declared.meant.Meant.TheVariants.{IntConst, BoolConst, IntArray, BoolArray}
 use Rattle.fz_model.specs.declared.model.Basic.{Basic}
 use Rattle.fz_model.specs.declared.model.Item.{Item}
 use Rattle.fz_model.specs.declared.model.Item.TheVariants as item
 use Rattle.fz_model.specs.declared.model.VarType.{VarType}
-use Rattle.fz_sat.specs.Args.{number_of, term_of}
+use Rattle.fz_sat.specs.Args.{term_of}
 use Rattle.fz_facts.specs.Facts.{IsElement, IsSmallType}
 use Rattle.fz_facts.proofs.Elements.{AreFree, each_element, meant_elements, placed_elements}
 use Rattle.fz_facts.proofs.Faults.{annotated_end, before_parts, chain_parts, listed_parts}
-use Rattle.fz_facts.proofs.Shown.{AreMeant, IsBoolOf, IsFine, IsIntOf, IsRight, Means, Stated}
+use Rattle.fz_facts.proofs.Shown.{IsBoolOf, IsIntOf, IsRight, Means, Stated}
 use Rattle.fz_facts.proofs.SmallTypes.{small_type}
 use Rattle.fz_facts.proofs.Steps.{IsPlain, plain_step}
 use Rattle.fz_facts.proofs.Tested.{bool_const_stated, bool_stated, const_stated, element, int_stated}

@@ -1,5 +1,5 @@
 -- A constraint without fault is known, and its arguments are what its kind wants.
-use Rattle.std.proofs.Common.{◌≡◌, ℕ, zero, suc, ◌+◌, ◌<◌, ◌≤◌, Bool, true, false, not, ◌&&◌, if◌then◌else◌, is_none, nat_le, nat_lt, unwrap_or, Option, Some, None, List, [], ◌∷◌, ◌++◌, length, map, filter_map, slice_get, option_map, pos, refl, sym, ap, subst, ◌∙◌, add-zero, zero-add, inl, inr, arith}
+use Rattle.std.proofs.Common.{◌≡◌, ℕ, zero, suc, ◌+◌, ◌<◌, ◌≤◌, Bool, true, false, not, ◌&&◌, if◌then◌else◌, is_none, nat_le, nat_lt, unwrap_or, Option, Some, None, List, [], ◌∷◌, length, map, filter_map, slice_get, option_map, pos, refl, sym, ap, subst, ◌∙◌, add-zero, zero-add, arith}
 use Rattle.std.specs.List.{list_any}
 use Rattle.std.specs.Option.{option_map_or}
 use Rattle.std.specs.Prelude.{MatchOption}
@@ -27,11 +27,10 @@ use Rattle.fz_model.specs.declared.kinds.ConstraintKind.{ConstraintKind}
 use Rattle.fz_model.specs.declared.kinds.ConstraintKind.TheVariants as of
 use Rattle.fz_model.specs.declared.model.Expr.{Expr}
 use Rattle.fz_model.specs.declared.model.Item.{Item}
-use Rattle.fz_sat.specs.Args.{arg_term, arg_terms, elements_of_expr, term_of_expr, terms_of}
-use Rattle.fz_facts.specs.Facts.{AreEqual, AreFit, ArePaired, IsFit, IsFitted, IsFitting, array_lengths}
+use Rattle.fz_sat.specs.Args.{arg_terms, elements_of_expr, term_of_expr, terms_of}
+use Rattle.fz_facts.specs.Facts.{AreFit, ArePaired, IsFit, IsFitted, IsFitting, array_lengths}
 use Rattle.fz_facts.proofs.Arguments.{IsGood, good}
-use Rattle.fz_facts.proofs.Elements.{counting}
-use Rattle.fz_facts.proofs.Faults.{EachBehind, chain_parts, listed_parts, test_passes}
+use Rattle.fz_facts.proofs.Faults.{chain_parts, listed_parts, test_passes}
 use Rattle.fz_facts.proofs.Fits.{Fits, fit_from, fits_nothing}
 use Rattle.fz_facts.proofs.Passes.{below_limit, neither, not_above, not_refused}
 use Rattle.fz_facts.proofs.Places.{Among-filter_map, behind_at, equal_among}

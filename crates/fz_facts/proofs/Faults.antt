@@ -1,5 +1,5 @@
 -- What has no fault has parts that have none: chains, leaves, lists, and what stands behind annotations.
-use Rattle.std.proofs.Common.{◌≡◌, ◌⊎◌, inl, inr, List, [], ◌∷◌, ◌++◌, ℕ, Option, Some, None, refl, sym, subst, append_assoc, append-nil}
+use Rattle.std.proofs.Common.{◌≡◌, inl, inr, List, [], ◌∷◌, ◌++◌, ℕ, Option, Some, None, refl, sym, subst, append_assoc, append-nil}
 use Rattle.dp_base.specs.Lists.{Each}
 use Rattle.dp_base.proofs.Lists.{Each-append_parts}
 use Rattle.dp_grammar.specs.Chain.{first_fault, chain, before_mark}

@@ -1,31 +1,28 @@
 -- A literal or a name whose meaning passes the test of an argument fits it.
-use Rattle.std.proofs.Common.{◌≡◌, ℕ, ◌≤◌, Bool, true, false, ◌⊎◌, inl, inr, Option, Some, None, is_none, not, List, [], ◌∷◌, length, map, ℤ, pos, refl, sym, ap, subst, ◌∙◌, arith}
+use Rattle.std.proofs.Common.{◌≡◌, ℕ, ◌≤◌, Bool, true, false, inl, inr, Option, Some, None, is_none, not, List, [], ◌∷◌, length, ℤ, pos, refl, sym, subst, arith}
 use Rattle.std.specs.List.{list_any}
 use Rattle.std.proofs.lemmas.Bool.{or_parts}
 use Rattle.std.proofs.lemmas.Int.{ints}
 use Rattle.std.proofs.lemmas.List.{length-map}
 use Rattle.dp_base.specs.Lists.{Each}
 use Rattle.dp_domain.specs.declared.term.Term.{Term}
-use Rattle.dp_domain.specs.declared.term.Term.TheVariants.{Var, Const}
-use Rattle.fz_model.specs.Constraints.{amount_test, constants_test, meant_length, wanted_test, wants_array}
-use Rattle.fz_model.specs.Context.{bool_test, const_test, int_test}
-use Rattle.fz_model.specs.Limits.{amount_limit, beyond_small, each_test, is_refused, no_test, refuse_if}
-use Rattle.fz_model.specs.ModelText.{bool_constant, int_constant}
+use Rattle.dp_domain.specs.declared.term.Term.TheVariants.{Const}
+use Rattle.fz_model.specs.Constraints.{constants_test}
+use Rattle.fz_model.specs.Limits.{each_test, is_refused, refuse_if}
 use Rattle.fz_model.specs.declared.fault.Fault.{Fault}
-use Rattle.fz_model.specs.declared.fault.Fault.TheVariants.{Kind, Limit, Unsupported}
+use Rattle.fz_model.specs.declared.fault.Fault.TheVariants.{Limit}
 use Rattle.fz_model.specs.declared.kinds.ArgKind.{ArgKind}
 use Rattle.fz_model.specs.declared.kinds.ArgKind.TheVariants as arg
 use Rattle.fz_model.specs.declared.meant.Meant.{Meant}
-use Rattle.fz_model.specs.declared.meant.Meant.TheVariants.{IntConst, BoolConst, IntArray, BoolArray}
+use Rattle.fz_model.specs.declared.meant.Meant.TheVariants.{IntArray}
 use Rattle.fz_model.specs.declared.model.Basic.{Basic}
 use Rattle.fz_model.specs.declared.model.Expr.{Expr}
 use Rattle.fz_model.specs.declared.model.Item.{Item}
 use Rattle.fz_sat.specs.Args.{arg_term, arg_terms, elements_of_basic, number_of, term_of, terms_of}
 use Rattle.fz_facts.specs.Facts.{AreFew, IsAmountConst, IsBoolTerm, IsConst, IsFit, IsIntTerm, IsSmallConst}
-use Rattle.fz_facts.proofs.Pairs.{Pairs, Pairs-length}
-use Rattle.fz_facts.proofs.Passes.{amount_number, neither, not_refused, small_number}
+use Rattle.fz_facts.proofs.Pairs.{Pairs}
+use Rattle.fz_facts.proofs.Passes.{neither, not_refused}
 use Rattle.fz_facts.proofs.Shown.{AreMeant, IsBoolOf, IsIntOf, Stated}
-use Rattle.fz_facts.proofs.Tested.{bool_stated, const_stated, int_stated}
 
 -- the term or the terms are what is wanted
 abbrev pub Fits : List Item → ArgKind → Term → List Term → Type 0

@@ -1,14 +1,12 @@
 -- The items behind all words are what the context behind them says.
-use Rattle.std.proofs.Common.{◌≡◌, ℕ, ◌+◌, Bool, if◌then◌else◌, ◌⊎◌, inl, inr, Option, Some, None, List, [], ◌∷◌, ◌++◌, ℤ, refl, sym, ap, subst, ◌∙◌, append-nil, codes, arith}
+use Rattle.std.proofs.Common.{◌≡◌, ◌+◌, inl, inr, None, List, [], ◌∷◌, ◌++◌, refl, sym, ap, subst, ◌∙◌, append-nil, codes, arith}
 use Rattle.dp_base.specs.Lists.{Each}
-use Rattle.fz_model.specs.Annotations.{Annotated}
 use Rattle.fz_model.specs.Context.{Context}
-use Rattle.fz_model.specs.Items.{IntText, SetWords, set_elements, type_elements, variable_item}
-use Rattle.fz_model.specs.Items as words
+use Rattle.fz_model.specs.Items.{set_elements, type_elements, variable_item}
 use Rattle.fz_model.specs.ModelText.{ItemWords, VariableWords, after_item, after_items, after_variable, closing, context_of, item, nothing}
 use Rattle.fz_model.specs.Models.{definition_of, is_noted, item_of, items_behind, items_of, notes_of, set_of, type_of, variable_item_of}
 use Rattle.fz_model.specs.Words.{IsSpelled}
-use Rattle.fz_model.specs.declared.meant.Meant.TheVariants.{IntConst, BoolConst, SetConst, IntVar, BoolVar}
+use Rattle.fz_model.specs.declared.meant.Meant.TheVariants.{IntConst, BoolConst, SetConst}
 use Rattle.fz_model.specs.declared.model.Item.{Item}
 use Rattle.fz_model.specs.declared.model.Item.TheVariants as kind
 use Rattle.fz_facts.proofs.ArraySteps.{array_step}

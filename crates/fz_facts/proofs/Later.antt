@@ -1,5 +1,5 @@
 -- What holds behind some items holds behind more.
-use Rattle.std.proofs.Common.{◌≡◌, ℕ, ◌<◌, ◌≤◌, Bool, true, false, Option, Some, None, List, [], ◌∷◌, length, ℤ, pos, slice_get, refl, sym, ap, subst, ◌∙◌, option_to_list, lt_of_lt_of_le, arith}
+use Rattle.std.proofs.Common.{◌≡◌, ℕ, ◌<◌, ◌≤◌, Bool, true, false, Option, Some, None, List, [], ◌∷◌, length, ℤ, pos, slice_get, refl, sym, ap, subst, ◌∙◌, option_to_list, lt_of_lt_of_le}
 use Rattle.std.specs.Option.{option_map_or}
 use Rattle.std.specs.Prelude.{MatchOption}
 use Rattle.dp_base.specs.Lists.{Each}
@@ -16,9 +16,9 @@ use Rattle.fz_model.specs.declared.model.Item.TheVariants as item
 use Rattle.fz_model.specs.declared.model.VarType.{VarType}
 use Rattle.fz_sat.specs.Args.{elements_of_item, term_of, term_of_item}
 use Rattle.fz_facts.specs.Declared.{is_boolean}
-use Rattle.fz_facts.specs.Facts.{AreNumbered, IsBounded, IsBounding, IsDeclared, IsElement, IsNumbered, IsSmallConst}
-use Rattle.fz_facts.proofs.Pairs.{Pairs, Pairs-weaker_each}
-use Rattle.fz_facts.proofs.Shown.{AreMeant, basics_of, IsBoolOf, IsFine, IsIntOf, IsVarTerm, Shows, Stands}
+use Rattle.fz_facts.specs.Facts.{IsBounding, IsDeclared, IsElement, IsNumbered, IsSmallConst}
+use Rattle.fz_facts.proofs.Pairs.{Pairs-weaker_each}
+use Rattle.fz_facts.proofs.Shown.{basics_of, IsBoolOf, IsFine, IsIntOf, IsVarTerm, Shows, Stands}
 
 -- the items before keep their places, and the variables before their numbers and kinds
 pub record Extends (before after : List Item) : Type 0 where

@@ -1,12 +1,12 @@
 -- What the tests of numbers, names and counts have shown where they refuse nothing.
-use Rattle.std.proofs.Common.{◌≡◌, ℕ, ◌+◌, ◌<◌, ◌≤◌, ◌^◌, Bool, true, false, not, ◌||◌, Option, Some, None, ℤ, pos, negsuc, neg_ℤ, ◌≤ℤ◌, nat_abs, nat_lt, nat_le, refl, sym, arith, List}
+use Rattle.std.proofs.Common.{◌≡◌, ℕ, ◌+◌, ◌<◌, ◌≤◌, Bool, true, false, Option, Some, None, ℤ, pos, negsuc, ◌≤ℤ◌, nat_abs, nat_lt, nat_le, refl, arith}
 use Rattle.std.specs.Int.Signed.{lt_z}
 use Rattle.std.specs.Option.{option_map_or}
 use Rattle.std.proofs.lemmas.Bool.{or_parts}
 use Rattle.std.proofs.lemmas.Bool.Decides.{nat_tests}
 use Rattle.std.proofs.lemmas.Int.{ints}
 use Rattle.dp_domain.specs.Sets.{IsSmall}
-use Rattle.fz_model.specs.Context.{Context, fresh, known, meant_by, one_more}
+use Rattle.fz_model.specs.Context.{Context, known, one_more}
 use Rattle.fz_model.specs.Limits.{amount_limit, beyond_small, or_else, refuse_if, small, max_elements}
 use Rattle.fz_model.specs.declared.fault.Fault.{Fault}
 use Rattle.fz_model.specs.declared.fault.Fault.TheVariants.{Declared}

@@ -1,5 +1,5 @@
 -- The numbers of a type that passes its tests are small.
-use Rattle.std.proofs.Common.{◌≡◌, ℕ, inl, inr, List, [], ◌∷◌, ◌++◌, length, map, Option, None, ℤ}
+use Rattle.std.proofs.Common.{◌≡◌, inl, inr, List, [], ◌∷◌, ◌++◌, length, map, Option, None, ℤ}
 use Rattle.dp_base.specs.Lists.{Each}
 use Rattle.dp_domain.specs.Sets.{IsSmall}
 use Rattle.dp_grammar.specs.Brackets.{Plain}

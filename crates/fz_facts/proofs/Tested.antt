@@ -1,14 +1,12 @@
 -- What the test of a meaning shows of the literal or name that is meant.
-use Rattle.std.proofs.Common.{◌≡◌, ℕ, ◌<◌, Bool, true, false, not, if◌then◌else◌, ◌⊎◌, inl, inr, Option, Some, None, List, ℤ, pos, refl, sym, subst, arith}
+use Rattle.std.proofs.Common.{◌≡◌, ℕ, ◌<◌, Bool, true, false, not, if◌then◌else◌, inl, inr, Option, Some, None, List, ℤ, refl, sym, subst, arith}
 use Rattle.std.specs.Prelude.{MatchOption}
 use Rattle.std.proofs.lemmas.Int.{ints}
 use Rattle.dp_domain.specs.Sets.{IsSmall}
-use Rattle.dp_domain.specs.declared.term.Term.{Term}
 use Rattle.dp_domain.specs.declared.term.Term.TheVariants.{Var, Const}
 use Rattle.fz_model.specs.Arrays.{is_in, type_test}
 use Rattle.fz_model.specs.Context.{bool_const_test, bool_test, const_test, int_test}
 use Rattle.fz_model.specs.Items.{TypeWords}
-use Rattle.fz_model.specs.Items as words
 use Rattle.fz_model.specs.Limits.{beyond_small, no_test, refuse_if}
 use Rattle.fz_model.specs.ModelText.{bool_constant, int_constant}
 use Rattle.fz_model.specs.Models.{count_variables, named_variable, type_of}

@@ -1,5 +1,5 @@
 -- Numbers that pass the test of a type are of the type.
-use Rattle.std.proofs.Common.{◌≡◌, Bool, true, false, not, ◌&&◌, ◌⊎◌, inl, inr, T, List, [], ◌∷◌, map, ℤ, pos, int_le, refl, ap, ap₂, ◌∙◌}
+use Rattle.std.proofs.Common.{◌≡◌, Bool, true, false, not, ◌&&◌, inl, inr, T, List, [], ◌∷◌, map, ℤ, int_le, refl}
 use Rattle.std.specs.Int.Signed.{lt_z, lt_z_no}
 use Rattle.std.specs.List.{list_any}
 use Rattle.std.proofs.lemmas.Bool.{and_parts, and_from, or_cases, or_left, or_right}

@@ -1,5 +1,5 @@
 -- What the tests of a variable's words show.
-use Rattle.std.proofs.Common.{◌≡◌, ℕ, Bool, true, false, if◌then◌else◌, ◌⊎◌, inl, inr, Option, Some, None, List, [], ◌∷◌, ◌++◌, nat_le, refl, sym, subst}
+use Rattle.std.proofs.Common.{◌≡◌, ℕ, true, false, if◌then◌else◌, ◌⊎◌, inl, inr, Some, None, List, [], ◌∷◌, nat_le, sym, subst}
 use Rattle.dp_base.specs.Lists.{Each}
 use Rattle.dp_base.specs.Names.{is_name}
 use Rattle.dp_base.proofs.Lists.{Each-append_parts}
@@ -17,14 +17,14 @@ use Rattle.fz_model.specs.Models.{basic_of_text, count_variables, definition_of,
 use Rattle.fz_model.specs.Words.{Colon, IsSpelled, Named, Semicolon, Stop}
 use Rattle.fz_model.specs.declared.fault.Fault.TheVariants.{Limit, Unbounded}
 use Rattle.fz_model.specs.declared.model.Item.{Item}
-use Rattle.fz_facts.specs.Declared.{is_bool_type, is_boolean}
+use Rattle.fz_facts.specs.Declared.{is_boolean}
 use Rattle.fz_facts.specs.Facts.{IsBounding, IsSmallType}
 use Rattle.fz_facts.proofs.Faults.{annotated_end, before_parts, chain_parts, test_passes}
 use Rattle.fz_facts.proofs.Finding.{stated}
 use Rattle.fz_facts.proofs.Passes.{below_limit, is_fresh, is_known, neither, not_refused}
-use Rattle.fz_facts.proofs.Shown.{IsRight, Stands}
+use Rattle.fz_facts.proofs.Shown.{IsRight}
 use Rattle.fz_facts.proofs.SmallTypes.{small_type}
-use Rattle.fz_facts.proofs.Tested.{IsDefinition, defines}
+use Rattle.fz_facts.proofs.Tested.{defines}
 use Rattle.fz_facts.proofs.Typed.{bool_type}
 use Rattle.fz_facts.proofs.VariableSteps.{IsAlias, IsNew}
 

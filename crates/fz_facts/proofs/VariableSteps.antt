@@ -1,26 +1,25 @@
 -- A variable or an alias behind the items.
-use Rattle.std.proofs.Common.{◌≡◌, ℕ, zero, ◌+◌, ◌<◌, ◌≤◌, ◌==◌, Bool, true, false, ◌&&◌, ◌||◌, if◌then◌else◌, is_none, unwrap_or, Option, Some, None, List, [], ◌∷◌, ◌++◌, length, map, bytes_eq, refl, sym, ap, subst, ◌∙◌, length-append, add-zero, arith}
+use Rattle.std.proofs.Common.{◌≡◌, ℕ, ◌+◌, ◌<◌, ◌≤◌, ◌==◌, Bool, true, false, ◌&&◌, ◌||◌, if◌then◌else◌, is_none, unwrap_or, Option, Some, None, List, [], ◌∷◌, ◌++◌, length, map, bytes_eq, refl, sym, ap, subst, ◌∙◌, length-append, arith}
 use Rattle.std.specs.Map.{lookup}
 use Rattle.std.specs.Prelude.{MatchOption}
 use Rattle.std.proofs.Math.Bool.{or-false, or_self}
 use Rattle.std.proofs.lemmas.Bool.Decides.{nat_tests}
 use Rattle.std.proofs.lemmas.List.{map-append}
 use Rattle.std.proofs.lemmas.List.Elements.{filter_map-append}
-use Rattle.dp_base.specs.Lists.{Each}
 use Rattle.dp_base.proofs.Lists.{Each-weaker}
 use Rattle.dp_base.specs.Names.{is_name}
 use Rattle.fz_model.specs.Context.{Context}
-use Rattle.fz_model.specs.Models.{count_variables, is_own, name_of_item, named_variable, number_of}
+use Rattle.fz_model.specs.Models.{count_variables, named_variable, number_of}
 use Rattle.fz_model.specs.declared.meant.Meant.{Meant}
 use Rattle.fz_model.specs.declared.meant.Meant.TheVariants.{IntVar, BoolVar}
 use Rattle.fz_model.specs.declared.model.Basic.{Basic}
 use Rattle.fz_model.specs.declared.model.Item.{Item}
 use Rattle.fz_model.specs.declared.model.Item.TheVariants as item
 use Rattle.fz_model.specs.declared.model.VarType.{VarType}
-use Rattle.fz_facts.specs.Declared.{declares_bool, is_bool_type, is_boolean, name_of, names_of}
+use Rattle.fz_facts.specs.Declared.{is_bool_type, is_boolean, name_of, names_of}
 use Rattle.fz_facts.specs.Facts.{AreApart, IsBounded, IsNumbered, IsSmallType}
 use Rattle.fz_facts.proofs.Apart.{apart-push, no_variable}
-use Rattle.fz_facts.proofs.Counting.{IsPlaced, boolean-push, count-push, named_later, one_if, own_later}
+use Rattle.fz_facts.proofs.Counting.{IsPlaced, boolean-push, count-push, named_later, one_if}
 use Rattle.fz_facts.proofs.Later.{Extends, declared_later, stands_later}
 use Rattle.fz_facts.proofs.Pairs.{slice_get-append}
 use Rattle.fz_facts.proofs.Shown.{IsFine, IsRight, Means, Stands, basics_of}

@@ -1,5 +1,5 @@
 -- What is named where an argument or an element is wanted fits.
-use Rattle.std.proofs.Common.{◌≡◌, Bool, true, false, Option, Some, None, List, [], ◌∷◌, ◌≤◌, length, ℤ, pos, is_none, refl, sym, ap, subst, ◌∙◌}
+use Rattle.std.proofs.Common.{◌≡◌, Bool, true, false, Option, Some, None, List, [], ◌∷◌, ◌≤◌, length, ℤ, is_none, sym, ap, subst, ◌∙◌}
 use Rattle.std.specs.List.{list_any}
 use Rattle.std.proofs.lemmas.List.{length-map}
 use Rattle.dp_base.specs.Lists.{Each}
@@ -14,10 +14,10 @@ use Rattle.fz_model.specs.declared.fault.Fault.TheVariants.{Kind, Unsupported}
 use Rattle.fz_model.specs.declared.kinds.ArgKind.{ArgKind}
 use Rattle.fz_model.specs.declared.kinds.ArgKind.TheVariants as arg
 use Rattle.fz_model.specs.declared.meant.Meant.{Meant}
-use Rattle.fz_model.specs.declared.meant.Meant.TheVariants.{IntConst, BoolConst, SetConst, IntVar, BoolVar, IntArray, BoolArray}
+use Rattle.fz_model.specs.declared.meant.Meant.TheVariants.{IntConst, IntArray, BoolArray}
 use Rattle.fz_model.specs.declared.model.Basic.{Basic}
 use Rattle.fz_model.specs.declared.model.Item.{Item}
-use Rattle.fz_sat.specs.Args.{elements_of_basic, number_of, term_of, terms_of}
+use Rattle.fz_sat.specs.Args.{elements_of_basic, term_of, terms_of}
 use Rattle.fz_facts.specs.Facts.{AreFew, IsAmountConst, IsBoolTerm, IsConst, IsIntTerm, IsSmallConst}
 use Rattle.fz_facts.proofs.Fits.{Fits, bool_term, const_terms, few_terms, int_term, meant_terms}
 use Rattle.fz_facts.proofs.Pairs.{Pairs, Pairs-length}

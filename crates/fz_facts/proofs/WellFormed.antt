@@ -1,5 +1,5 @@
 -- A model is well formed.
-use Rattle.std.proofs.Common.{◌≡◌, ℕ, ◌+◌, ◌<◌, ◌≤◌, ◌⊎◌, inl, inr, Bool, true, false, Option, Some, None, List, [], ◌∷◌, length, map, refl, sym, subst, arith}
+use Rattle.std.proofs.Common.{◌≡◌, ℕ, ◌+◌, ◌<◌, ◌≤◌, ◌⊎◌, inl, inr, true, false, None, List, [], ◌∷◌, length, sym, subst, arith}
 use Rattle.std.proofs.lemmas.List.{length-map}
 use Rattle.dp_base.specs.Lists.{Each}
 use Rattle.dp_base.specs.Names.{is_name}
@@ -27,10 +27,10 @@ use Rattle.fz_sat.specs.Args.{term_of}
 use Rattle.fz_facts.specs.Declared.{names_of}
 use Rattle.fz_facts.specs.Facts.{IsDeclared, IsFitted, IsGoal, IsVariable, IsWellFormed}
 use Rattle.fz_facts.proofs.ConstraintFacts.{constraint_facts}
-use Rattle.fz_facts.proofs.Faults.{EachBehind, annotated_end, before_parts, chain_parts, many_parts, many_spelled, test_passes}
+use Rattle.fz_facts.proofs.Faults.{annotated_end, before_parts, chain_parts, many_parts, many_spelled, test_passes}
 use Rattle.fz_facts.proofs.Finding.{stated}
 use Rattle.fz_facts.proofs.ItemSteps.{items_right}
-use Rattle.fz_facts.proofs.Pairs.{Pairs, Pairs-each}
+use Rattle.fz_facts.proofs.Pairs.{Pairs-each}
 use Rattle.fz_facts.proofs.Passes.{is_known}
 use Rattle.fz_facts.proofs.Places.{EachBehind-weaker, each_of, few_behind}
 use Rattle.fz_facts.proofs.Shown.{IsFine, IsNamed, IsRight, Stated}

@@ -1,7 +1,7 @@
 -- What the items of a model declare: the names of variables, their numbers, and which are Boolean.
-use Rattle.std.specs.Prelude.{ℕ, ◌+◌, ◌==◌, Bool, true, false, ◌&&◌, if◌then◌else◌, Option, Some, None, is_none, MatchOption, List, [], ◌∷◌, filter, length, ℤ}
+use Rattle.std.specs.Prelude.{ℕ, ◌+◌, ◌==◌, Bool, true, false, ◌&&◌, if◌then◌else◌, Option, Some, None, is_none, List, [], ◌∷◌}
 use Rattle.std.specs.List.{filter_map, list_any}
-use Rattle.fz_model.specs.Models.{count_variables, is_own, named_variable}
+use Rattle.fz_model.specs.Models.{named_variable}
 use Rattle.fz_model.specs.declared.model.Item.{Item}
 use Rattle.fz_model.specs.declared.model.Item.TheVariants as item
 use Rattle.fz_model.specs.declared.model.VarType.{VarType}

@@ -1,5 +1,5 @@
 -- What holds of every model: what its text's tests have shown. Lowering rests on these facts alone.
-use Rattle.std.specs.Prelude.{◌≡◌, ℕ, suc, ◌+◌, ◌<◌, ◌≤◌, ◌^◌, Bool, true, false, ◌⊎◌, if◌then◌else◌, IsSome, MatchOption, Option, Some, List, [], ◌∷◌, length, map, ℤ, pos, ◌≤ℤ◌}
+use Rattle.std.specs.Prelude.{◌≡◌, ℕ, ◌+◌, ◌<◌, ◌≤◌, ◌^◌, true, false, ◌⊎◌, if◌then◌else◌, MatchOption, Option, Some, List, [], ◌∷◌, length, map, ℤ, pos, ◌≤ℤ◌}
 use Rattle.std.specs.List.{list_any}
 use Rattle.dp_base.specs.Lists.{Among, Each}
 use Rattle.dp_base.specs.Names.{is_name}
