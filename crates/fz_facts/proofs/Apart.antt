@@ -16,12 +16,14 @@ use Rattle.fz_facts.proofs.Pairs.{Pairs}
 -- one more name
 pub apart-push : (names : List (List ℕ)) (name : List ℕ) → AreApart names → ¬ (Among name names) → AreApart (names ++ name ∷ [])
 apart-push [] name a new = ((λ h. h), tt)
-apart-push (n ∷ names) name a new =
-    ((λ h. elim (Among-append_cases n names (name ∷ []) h) [
-      | inl k ↦ a.0 k
-      | inr (inl e) ↦ new (inl (sym e))
-      | inr (inr k) ↦ k
-    ]), apart-push names name a.1 (λ h. new (inr h)))
+apart-push (n ∷ names) name a new = (
+  (λ h. elim (Among-append_cases n names (name ∷ []) h) [
+    | inl k ↦ a.0 k
+    | inr (inl e) ↦ new (inl (sym e))
+    | inr (inr k) ↦ k
+  ]),
+  apart-push names name a.1 (λ h. new (inr h)),
+)
 
 -- ---- names that the context lacks
 
@@ -34,13 +36,9 @@ var_names items = map (λ e. e.0) (names_of items)
 
 -- a variable among them has one of the names
 names_step : (bytes : List ℕ) (i : Item) (items : List Item) → bytes_eq bytes (name_of_item i) ≡ false → ¬ (Among bytes (var_names items)) → ¬ (Among bytes (var_names (i ∷ items)))
-names_step bytes (item.Int name value) items is new h = new h
-names_step bytes (item.Bool name value) items is new h = new h
-names_step bytes (item.Set name s) items is new h = new h
-names_step bytes (item.Consts name bools elements) items is new h = new h
-names_step bytes (item.Vars name kind output elements) items is new h = new h
 names_step bytes (item.Var name kind output value var) items is new (inl e) = false≢true (sym is ∙ (bytes_eq-Decides bytes name).1 e)
 names_step bytes (item.Var name kind output value var) items is new (inr h) = new h
+names_step bytes i items is new h = new h
 
 pub no_variable : (R : (List ℕ × Meant) → Item → Type 0) → ((e : List ℕ × Meant) (i : Item) → R e i → e.0 ≡ name_of_item i) → (bytes : List ℕ) (es : List (List ℕ × Meant)) (items : List Item)
     → Pairs R es items → lookup (bytes_eq bytes) es ≡ None → ¬ (Among bytes (var_names items))

@@ -145,8 +145,11 @@ variables_step c items right size a e =
       spelled = tt;
       placed = placed_elements c items right n (type_test a.0) texts p.1;
       means = vars_mean c items right n a.1.0 a.0 output texts p.1;
-      declared = (p.0, each_element c items right n (type_test a.0) texts p.1
-          (λ b. IsElement (count_variables items) (type_of a.0) (term_of items b)) (λ m b f s. element items b a.0 m f s));
+      declared = (
+        p.0,
+        each_element c items right n (type_test a.0) texts p.1
+            (λ b. IsElement (count_variables items) (type_of a.0) (term_of items b)) (λ m b f s. element items b a.0 m f s),
+      );
     })
 
 -- ---- both

@@ -28,7 +28,7 @@ use Rattle.fz_model.specs.declared.kinds.ConstraintKind.TheVariants as of
 use Rattle.fz_model.specs.declared.model.Expr.{Expr}
 use Rattle.fz_model.specs.declared.model.Item.{Item}
 use Rattle.fz_sat.specs.Args.{arg_terms, elements_of_expr, term_of_expr, terms_of}
-use Rattle.fz_facts.specs.Facts.{AreFit, ArePaired, IsFit, IsFitted, IsFitting, array_lengths}
+use Rattle.fz_facts.specs.Facts.{AreFit, ArePaired, IsFit, IsFitted, IsPaired, array_lengths}
 use Rattle.fz_facts.proofs.Arguments.{IsGood, good}
 use Rattle.fz_facts.proofs.Faults.{chain_parts, listed_parts, test_passes}
 use Rattle.fz_facts.proofs.Fits.{Fits, fit_from, fits_nothing}
@@ -46,11 +46,12 @@ stands (x ∷ xs) (suc k) h = stands xs k (omega arith)
 
 all_fit : (items : List Item) (args : List Expr) (k : ℕ) (wanted : List ArgKind) → ((j : ℕ) (kind : ArgKind) → slice_get wanted j ≡ Some kind → IsFit items args (k + j) kind) → AreFit items args k wanted
 all_fit items args k [] h = tt
-all_fit items args k (kind ∷ wanted) h =
-    (subst (λ n. IsFit items args n kind) (add-zero k) (h zero kind refl),
-    all_fit items args (k + 1) wanted (λ j other at.
-    let same : k + suc j ≡ (k + 1) + j = omega arith in
-    subst (λ n. IsFit items args n other) same (h (suc j) other at)))
+all_fit items args k (kind ∷ wanted) h = (
+  subst (λ n. IsFit items args n kind) (add-zero k) (h zero kind refl),
+  all_fit items args (k + 1) wanted (λ j other at.
+      let same : k + suc j ≡ (k + 1) + j = omega arith in
+      subst (λ n. IsFit items args n other) same (h (suc j) other at)),
+)
 
 lengths_step : (l : List ℕ) (n : ℕ) (ns : List ℕ) (b : Bool) → (b ≡ true → Among n l) → Each (λ m. Among m l) ns → Each (λ m. Among m l) (if b then n ∷ ns else ns)
 lengths_step l n ns true h each = (h refl, each)
@@ -141,12 +142,8 @@ module _ (c : Context) (items : List Item) (right : IsRight c items) (kept : Lis
         let found = stands args j less in
         subst (λ n. Among (length (arg_terms items exprs n)) l) (sym (zero-add j)) (long_by j want wanted w found.0 found.1)))
 
-    pub fitting : IsFitting items exprs (args_of kind)
-    fitting =
-        record {
-          fit = all_fit items exprs 0 (args_of kind) (λ j want wanted. subst (λ n. IsFit items exprs n want) (sym (zero-add j)) (fits_at j want wanted));
-          paired = pairs_fit;
-        }
+    args_fit : AreFit items exprs 0 (args_of kind)
+    args_fit = all_fit items exprs 0 (args_of kind) (λ j want wanted. subst (λ n. IsFit items exprs n want) (sym (zero-add j)) (fits_at j want wanted))
 
 -- ---- the item
 
@@ -157,9 +154,15 @@ known_kind P (Some kind) e h = h
 abbrev IsFree : Context → List ConstraintWords → ConstraintWords → Type 0
 IsFree c kept w = (constraint_item c kept).fault w ≡ None
 
--- a constraint without fault stands behind fewer than there may be, and is fitted
+-- behind fewer constraints than there may be; fitted, and paired
+pub record IsAllowed (items : List Item) (kept : List ConstraintWords) (w : ConstraintWords) : Type 0 where
+  pub fewer : length kept < 200000
+  pub fitted : IsFitted items (constraint_of_words items w)
+  pub paired : IsPaired items (constraint_of_words items w)
+
+-- a constraint without fault is so
 pub constraint_facts : (c : Context) (items : List Item) → IsRight c items → (kept : List ConstraintWords) (w : ConstraintWords) → IsFree c kept w
-    → (length kept < 200000) × IsFitted items (constraint_of_words items w)
+    → IsAllowed items kept w
 constraint_facts c items right kept w e =
     let many = refuse_if (nat_le max_constraints (length kept)) Limit in
     let unknown = λ (bytes : List ℕ). refuse_if (is_none (constraint_of bytes)) Unsupported in
@@ -168,7 +171,9 @@ constraint_facts c items right kept w e =
     let p = chain_parts (tested_mark (is_key key.Constraint) (Plain (Key key.Constraint)) many) (λ _. chain (name unknown) args) (tt, w) e in
     let q = chain_parts (name unknown) args w p.1 in
     let r = chain_parts (arguments (behind_constraints c kept) (kind_named w.0)) ending w.1 q.1 in
-    (below_limit max_constraints (length kept) Limit (test_passes many (Plain (Key key.Constraint) ∷ []) p.0),
-    known_kind (λ kind. IsFitting items (map (expr_of items) w.1.0) (args_of kind)) (constraint_of w.0)
-    (not_refused (is_none (constraint_of w.0)) Unsupported (test_passes (unknown w.0) (Plain (Named w.0) ∷ []) q.0))
-    (fitting c items right kept (kind_named w.0) w.1.0 r.0))
+    let is_known = not_refused (is_none (constraint_of w.0)) Unsupported (test_passes (unknown w.0) (Plain (Named w.0) ∷ []) q.0) in
+    record {
+      fewer = below_limit max_constraints (length kept) Limit (test_passes many (Plain (Key key.Constraint) ∷ []) p.0);
+      fitted = known_kind (λ kind. AreFit items (map (expr_of items) w.1.0) 0 (args_of kind)) (constraint_of w.0) is_known (args_fit c items right kept (kind_named w.0) w.1.0 r.0);
+      paired = known_kind (λ kind. ArePaired items (map (expr_of items) w.1.0) (args_of kind)) (constraint_of w.0) is_known (pairs_fit c items right kept (kind_named w.0) w.1.0 r.0);
+    }

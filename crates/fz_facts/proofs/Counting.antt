@@ -32,12 +32,8 @@ named_later items more name kind output None var h = refl
 named_later items more name kind output (Some b) var h = named_at items more b h.0
 
 pub own_later : (items more : List Item) (i : Item) → IsPlaced items i → is_own (items ++ more) i ≡ is_own items i
-own_later items more (item.Int name value) h = refl
-own_later items more (item.Bool name value) h = refl
-own_later items more (item.Set name s) h = refl
-own_later items more (item.Consts name bools elements) h = refl
-own_later items more (item.Vars name kind output elements) h = refl
 own_later items more (item.Var name kind output value var) h = ap is_none (named_later items more name kind output value var h)
+own_later items more i h = refl
 
 filter_same : (p q : Item → Bool) (xs : List Item) → Each (λ x. p x ≡ q x) xs → filter p xs ≡ filter q xs
 filter_same p q [] h = refl
@@ -85,6 +81,8 @@ next_own false n i xs = refl
 pub numbered-push : (items : List Item) (n : ℕ) (xs : List Item) (i : Item) → AreNumbered items n xs → IsNumbered items (n + length (filter (is_own items) xs)) i
     → AreNumbered items n (xs ++ i ∷ [])
 numbered-push items n [] i h k = (subst (λ m. IsNumbered items m i) (add-zero n) k, tt)
-numbered-push items n (x ∷ xs) i h k =
-    (h.0, numbered-push items (next (is_own items x) n) xs i h.1
-    (subst (λ m. IsNumbered items m i) (next_own (is_own items x) n x (filter (is_own items) xs)) k))
+numbered-push items n (x ∷ xs) i h k = (
+  h.0,
+  numbered-push items (next (is_own items x) n) xs i h.1
+      (subst (λ m. IsNumbered items m i) (next_own (is_own items x) n x (filter (is_own items) xs)) k),
+)

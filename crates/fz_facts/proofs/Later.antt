@@ -71,12 +71,9 @@ module _ (before after : List Item) (x : Extends before after) where
       record { few = s.few; each = Pairs-weaker_each (IsBoolOf before) (IsBoolOf after) (Stands before) bool_later meant elements h s.each }
 
   elements_placed : (i : Item) → Each (Stands before) (basics_of i) → Each (Stands before) (elements_of_item i)
-  elements_placed (item.Int name value) h = tt
-  elements_placed (item.Bool name value) h = tt
-  elements_placed (item.Set name s) h = tt
   elements_placed (item.Consts name bools elements) h = h
-  elements_placed (item.Var name kind output value var) h = tt
   elements_placed (item.Vars name kind output elements) h = h
+  elements_placed i h = tt
 
   element_later : (kind : VarType) (t : Term) → IsElement (count_variables before) kind t → IsElement (count_variables after) kind t
   element_later kind (Const v) e = e
@@ -101,14 +98,13 @@ module _ (before after : List Item) (x : Extends before after) where
   defined name kind output (Some b) var h = h
 
   pub declared_later : (i : Item) → Each (Stands before) (basics_of i) → IsDeclared before i → IsDeclared after i
-  declared_later (item.Int name value) h d = tt
-  declared_later (item.Bool name value) h d = tt
-  declared_later (item.Set name s) h d = tt
-  declared_later (item.Consts name bools elements) h d = tt
-  declared_later (item.Var name kind output value var) h d =
-      (d.0, subst (λ o. MatchOption o (MatchOption value (IsBounding kind) (λ b. IsSmallConst (term_of after b))) (λ y. Unit {0}))
-      (sym (named_later name kind output value var h)) (bounded_later kind value (named_variable before value) (defined name kind output value var h) d.1))
+  declared_later (item.Var name kind output value var) h d = (
+    d.0,
+    subst (λ o. MatchOption o (MatchOption value (IsBounding kind) (λ b. IsSmallConst (term_of after b))) (λ y. Unit {0}))
+        (sym (named_later name kind output value var h)) (bounded_later kind value (named_variable before value) (defined name kind output value var h) d.1),
+  )
   declared_later (item.Vars name kind output elements) h d = (d.0, elements_later kind elements h d.1)
+  declared_later i h d = tt
 
   pub fine_later : (e : List ℕ × Meant) (i : Item) → IsFine before e i → IsFine after e i
   fine_later e i f =
@@ -121,10 +117,6 @@ module _ (before after : List Item) (x : Extends before after) where
       }
 
   pub numbered_later : (n : ℕ) (i : Item) → Each (Stands before) (basics_of i) → IsNumbered before n i → IsNumbered after n i
-  numbered_later n (item.Int name value) h d = tt
-  numbered_later n (item.Bool name value) h d = tt
-  numbered_later n (item.Set name s) h d = tt
-  numbered_later n (item.Consts name bools elements) h d = tt
   numbered_later n (item.Var name kind output value var) h d =
       subst (λ o. MatchOption o (var ≡ n) (λ y. (var ≡ y) × (y < n))) (sym (named_later name kind output value var h)) d
-  numbered_later n (item.Vars name kind output elements) h d = tt
+  numbered_later n i h d = tt

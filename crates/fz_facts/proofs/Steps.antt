@@ -22,10 +22,11 @@ all_placed c items right = Pairs-each (IsFine items) (IsPlaced items) (λ e i f.
 -- numbers stay
 numbers_later : (items : List Item) (i : Item) → Extends items (items ++ i ∷ []) → (n : ℕ) (xs : List Item) → Each (IsPlaced items) xs → AreNumbered items n xs → AreNumbered (items ++ i ∷ []) n xs
 numbers_later items i x n [] h k = tt
-numbers_later items i x n (y ∷ ys) h k =
-    (numbered_later items (items ++ i ∷ []) x n y h.0 k.0,
-    subst (λ b. AreNumbered (items ++ i ∷ []) (if b then n + 1 else n) ys) (sym (own_later items (i ∷ []) y h.0))
-    (numbers_later items i x (if is_own items y then n + 1 else n) ys h.1 k.1))
+numbers_later items i x n (y ∷ ys) h k = (
+  numbered_later items (items ++ i ∷ []) x n y h.0 k.0,
+  subst (λ b. AreNumbered (items ++ i ∷ []) (if b then n + 1 else n) ys) (sym (own_later items (i ∷ []) y h.0))
+      (numbers_later items i x (if is_own items y then n + 1 else n) ys h.1 k.1),
+)
 
 -- all numbers behind one more item
 pub numbers-push : (c : Context) (items : List Item) (i : Item) → IsRight c items → Extends items (items ++ i ∷ []) → IsNumbered (items ++ i ∷ []) (count_variables items) i

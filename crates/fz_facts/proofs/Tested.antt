@@ -13,7 +13,7 @@ use Rattle.fz_model.specs.Models.{count_variables, named_variable, type_of}
 use Rattle.fz_model.specs.declared.fault.Fault.{Fault}
 use Rattle.fz_model.specs.declared.fault.Fault.TheVariants.{Kind}
 use Rattle.fz_model.specs.declared.meant.Meant.{Meant}
-use Rattle.fz_model.specs.declared.meant.Meant.TheVariants.{IntConst, BoolConst, SetConst, IntVar, BoolVar, IntArray, BoolArray}
+use Rattle.fz_model.specs.declared.meant.Meant.TheVariants.{IntConst, BoolConst, IntVar, BoolVar}
 use Rattle.fz_model.specs.declared.model.Basic.{Basic}
 use Rattle.fz_model.specs.declared.model.Item.{Item}
 use Rattle.fz_model.specs.declared.model.VarType.{VarType}
@@ -31,40 +31,22 @@ module _ (items : List Item) (b : Basic) where
   pub int_stated : (test : ℤ → Option Fault) (m : Meant) → int_test test m ≡ None → Stated items m b → IsIntOf items (int_constant (Some m)) b
   int_stated test (IntConst v) e s = s.0
   int_stated test IntVar e s = (s.0, s.1, s.2, s.3)
-  int_stated test (BoolConst v) e s = absurd cc
-  int_stated test SetConst e s = absurd cc
-  int_stated test BoolVar e s = absurd cc
-  int_stated test (IntArray parameter meant) e s = absurd cc
-  int_stated test (BoolArray parameter meant) e s = absurd cc
+  int_stated test m e s = absurd cc
 
   pub bool_stated : (m : Meant) → bool_test m ≡ None → Stated items m b → IsBoolOf items (bool_constant (Some m)) b
   bool_stated (BoolConst v) e s = s.0
   bool_stated BoolVar e s = (s.0, s.1, s.2, s.3)
-  bool_stated (IntConst v) e s = absurd cc
-  bool_stated SetConst e s = absurd cc
-  bool_stated IntVar e s = absurd cc
-  bool_stated (IntArray parameter meant) e s = absurd cc
-  bool_stated (BoolArray parameter meant) e s = absurd cc
+  bool_stated m e s = absurd cc
 
   -- ---- constants
 
   pub const_stated : (test : ℤ → Option Fault) (m : Meant) → const_test test m ≡ None → Stated items m b → (v : ℤ) × (m ≡ IntConst v) × (test v ≡ None) × (term_of items b ≡ Const v)
   const_stated test (IntConst v) e s = (v, refl, e, s.0)
-  const_stated test IntVar e s = absurd cc
-  const_stated test (BoolConst v) e s = absurd cc
-  const_stated test SetConst e s = absurd cc
-  const_stated test BoolVar e s = absurd cc
-  const_stated test (IntArray parameter meant) e s = absurd cc
-  const_stated test (BoolArray parameter meant) e s = absurd cc
+  const_stated test m e s = absurd cc
 
   pub bool_const_stated : (m : Meant) → bool_const_test m ≡ None → Stated items m b → (v : Bool) × (m ≡ BoolConst v) × (term_of items b ≡ Const (number_of v))
   bool_const_stated (BoolConst v) e s = (v, refl, s.0)
-  bool_const_stated BoolVar e s = absurd cc
-  bool_const_stated (IntConst v) e s = absurd cc
-  bool_const_stated SetConst e s = absurd cc
-  bool_const_stated IntVar e s = absurd cc
-  bool_const_stated (IntArray parameter meant) e s = absurd cc
-  bool_const_stated (BoolArray parameter meant) e s = absurd cc
+  bool_const_stated m e s = absurd cc
 
   -- ---- what defines a variable
 
@@ -94,20 +76,12 @@ module _ (items : List Item) (b : Basic) where
   int_defines : (m : Meant) → int_test beyond_small m ≡ None → Stated items m b → IsDefinition false
   int_defines (IntConst v) e s = defined_const false v s.0 s.1 (small_number v e)
   int_defines IntVar e s = defined_variable false s.0 s.4 s.2 s.3
-  int_defines (BoolConst v) e s = absurd cc
-  int_defines SetConst e s = absurd cc
-  int_defines BoolVar e s = absurd cc
-  int_defines (IntArray parameter meant) e s = absurd cc
-  int_defines (BoolArray parameter meant) e s = absurd cc
+  int_defines m e s = absurd cc
 
   bool_defines : (m : Meant) → bool_test m ≡ None → Stated items m b → IsDefinition true
   bool_defines (BoolConst v) e s = defined_const true (number_of v) s.0 s.1 (bool_small v)
   bool_defines BoolVar e s = defined_variable true s.0 s.4 s.2 s.3
-  bool_defines (IntConst v) e s = absurd cc
-  bool_defines SetConst e s = absurd cc
-  bool_defines IntVar e s = absurd cc
-  bool_defines (IntArray parameter meant) e s = absurd cc
-  bool_defines (BoolArray parameter meant) e s = absurd cc
+  bool_defines m e s = absurd cc
 
   pub defines : (bools : Bool) (m : Meant) → (if bools then bool_test else int_test beyond_small) m ≡ None → Stated items m b → IsDefinition bools
   defines true m e s = bool_defines m e s
@@ -131,20 +105,12 @@ module _ (items : List Item) (b : Basic) where
   bool_element : (m : Meant) → bool_test m ≡ None → Stated items m b → IsOne (type_of (inl tt))
   bool_element (BoolConst v) e s = const_element (type_of (inl tt)) (number_of v) s.0 (bool_of_type v)
   bool_element BoolVar e s = variable_element (type_of (inl tt)) s.0 s.1 s.2
-  bool_element (IntConst v) e s = absurd cc
-  bool_element SetConst e s = absurd cc
-  bool_element IntVar e s = absurd cc
-  bool_element (IntArray parameter meant) e s = absurd cc
-  bool_element (BoolArray parameter meant) e s = absurd cc
+  bool_element m e s = absurd cc
 
   int_element : (kind : VarType) (test : ℤ → Option Fault) → ((v : ℤ) → test v ≡ None → is_of_type kind v ≡ true) → (m : Meant) → int_test test m ≡ None → Stated items m b → IsOne kind
   int_element kind test is (IntConst v) e s = const_element kind v s.0 (is v e)
   int_element kind test is IntVar e s = variable_element kind s.0 s.1 s.2
-  int_element kind test is (BoolConst v) e s = absurd cc
-  int_element kind test is SetConst e s = absurd cc
-  int_element kind test is BoolVar e s = absurd cc
-  int_element kind test is (IntArray parameter meant) e s = absurd cc
-  int_element kind test is (BoolArray parameter meant) e s = absurd cc
+  int_element kind test is m e s = absurd cc
 
   in_set : (c : Bool) → refuse_if (not c) Kind ≡ None → c ≡ true
   in_set true e = refl

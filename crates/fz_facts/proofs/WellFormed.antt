@@ -25,9 +25,9 @@ use Rattle.fz_model.specs.declared.model.Item.{Item}
 use Rattle.fz_model.specs.declared.model.Item.TheVariants as kind
 use Rattle.fz_sat.specs.Args.{term_of}
 use Rattle.fz_facts.specs.Declared.{names_of}
-use Rattle.fz_facts.specs.Facts.{IsDeclared, IsFitted, IsGoal, IsVariable, IsWellFormed}
-use Rattle.fz_facts.proofs.ConstraintFacts.{constraint_facts}
-use Rattle.fz_facts.proofs.Faults.{annotated_end, before_parts, chain_parts, many_parts, many_spelled, test_passes}
+use Rattle.fz_facts.specs.Facts.{IsDeclared, IsFitted, IsGoal, IsPaired, IsVariable, IsWellFormed}
+use Rattle.fz_facts.proofs.ConstraintFacts.{IsAllowed, constraint_facts}
+use Rattle.fz_facts.proofs.Faults.{EachBehind, annotated_end, before_parts, chain_parts, many_parts, many_spelled, test_passes}
 use Rattle.fz_facts.proofs.Finding.{stated}
 use Rattle.fz_facts.proofs.ItemSteps.{items_right}
 use Rattle.fz_facts.proofs.Pairs.{Pairs-each}
@@ -38,12 +38,8 @@ use Rattle.fz_facts.proofs.Shown.{IsFine, IsNamed, IsRight, Stated}
 -- ---- names
 
 named_step : (i : Item) (items : List Item) → IsNamed i → Each (λ e. is_name e.0 ≡ true) (names_of items) → Each (λ e. is_name e.0 ≡ true) (names_of (i ∷ items))
-named_step (kind.Int name value) items h each = each
-named_step (kind.Bool name value) items h each = each
-named_step (kind.Set name s) items h each = each
-named_step (kind.Consts name bools elements) items h each = each
-named_step (kind.Vars name type output elements) items h each = each
 named_step (kind.Var name type output value var) items h each = (h, each)
+named_step i items h each = each
 
 all_named : (items : List Item) → Each IsNamed items → Each (λ e. is_name e.0 ≡ true) (names_of items)
 all_named [] h = tt
@@ -104,16 +100,17 @@ words_well_formed w h e =
     let p = many_parts items_repeat w e in
     let right : IsRight c items = items_right w.0 p.0 (many_spelled IsSpelled items_repeat w h) in
     let q = many_parts (constraints_repeat c) w.1 p.1 in
-    let each = EachBehind-weaker (λ before x. (constraint_item c before).fault x ≡ None) (λ before x. (length before < 200000) × IsFitted items (constraint_of_words items x))
-        (constraint_facts c items right) [] w.1.0 q.0 in
+    let allowed : EachBehind (IsAllowed items) [] w.1.0 =
+    EachBehind-weaker (λ before x. (constraint_item c before).fault x ≡ None) (IsAllowed items) (constraint_facts c items right) [] w.1.0 q.0 in
     let few : 0 + length w.1.0 ≤ 200000 =
-        few_behind 200000 [] w.1.0 (omega arith) (EachBehind-weaker (λ before x. (length before < 200000) × IsFitted items (constraint_of_words items x)) (λ before x. length before < 200000) (λ before x k. k.0) [] w.1.0 each) in
+    few_behind 200000 [] w.1.0 (omega arith) (EachBehind-weaker (IsAllowed items) (λ before x. length before < 200000) (λ before x k. k.fewer) [] w.1.0 allowed) in
     record {
       spelled = all_named items (Pairs-each (IsFine items) IsNamed (λ e i f. f.spelled) c.entries items right.fine);
       apart = right.apart;
       numbered = right.numbered;
       declared = Pairs-each (IsFine items) (IsDeclared items) (λ e i f. f.declared) c.entries items right.fine;
-      fitted = each_of (λ before x. (length before < 200000) × IsFitted items (constraint_of_words items x)) (IsFitted items) (constraint_of_words items) (λ before x k. k.1) [] w.1.0 each;
+      fitted = each_of (IsAllowed items) (IsFitted items) (constraint_of_words items) (λ before x k. k.fitted) [] w.1.0 allowed;
+      paired = each_of (IsAllowed items) (IsPaired items) (constraint_of_words items) (λ before x k. k.paired) [] w.1.0 allowed;
       goal = goal_facts c items right w.1.1 q.1;
       few_names = right.few;
       few_constraints = omega (arith, few, length-map w.1.0 (constraint_of_words items));

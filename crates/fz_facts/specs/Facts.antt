@@ -142,14 +142,13 @@ array_lengths items args k (kind ∷ wanted) =
 abbrev pub ArePaired : List Item → List Expr → List ArgKind → Type 0
 ArePaired items args wanted = list_any pairs_arrays wanted ≡ true → AreEqual (array_lengths items args 0 wanted)
 
--- the arguments are what is wanted, and arrays that are paired have equal lengths
-pub record IsFitting (items : List Item) (args : List Expr) (wanted : List ArgKind) : Type 0 where
-  pub fit : AreFit items args 0 wanted
-  pub paired : ArePaired items args wanted
-
 -- the constraint has a meaning, and its arguments are what its kind wants
 abbrev pub IsFitted : List Item → Constraint → Type 0
-IsFitted items c = MatchOption (constraint_of c.name) ⊥ (λ kind. IsFitting items c.args (args_of kind))
+IsFitted items c = MatchOption (constraint_of c.name) ⊥ (λ kind. AreFit items c.args 0 (args_of kind))
+
+-- the constraint has a meaning, and its arrays have equal lengths where its kind pairs them
+abbrev pub IsPaired : List Item → Constraint → Type 0
+IsPaired items c = MatchOption (constraint_of c.name) ⊥ (λ kind. ArePaired items c.args (args_of kind))
 
 -- ---- the whole
 
@@ -171,6 +170,7 @@ pub record IsWellFormed (m : Plan) : Type 0 where
   pub numbered : AreNumbered m.items 0 m.items
   pub declared : Each (IsDeclared m.items) m.items
   pub fitted : Each (IsFitted m.items) m.constraints
+  pub paired : Each (IsPaired m.items) m.constraints
   pub goal : IsGoal m.items m.goal
   pub few_names : length (names_of m.items) ≤ 200000
   pub few_constraints : length m.constraints ≤ 200000
