@@ -1,5 +1,5 @@
 -- The elements of an array literal, each of which passes a test of its meaning.
-use Rattle.std.proofs.Common.{◌≡◌, ℕ, ◌+◌, ◌<◌, ◌≤◌, Option, Some, None, List, [], ◌∷◌, ◌++◌, length, map, refl, sym, subst, length-append, arith}
+use Rattle.std.proofs.Common.{◌≡◌, ℕ, ◌+◌, ◌<◌, ◌≤◌, Option, Some, None, List, [], ◌∷◌, ◌++◌, length, map, refl, sym, subst, arith}
 use Rattle.std.proofs.lemmas.List.{length-map}
 use Rattle.dp_base.specs.Lists.{Each}
 use Rattle.fz_model.specs.Context.{BasicText, Truth, Whole, Name, Context, known, meaning, one_more}
@@ -14,6 +14,7 @@ use Rattle.fz_facts.proofs.Faults.{EachBehind, test_passes}
 use Rattle.fz_facts.proofs.Finding.{stated}
 use Rattle.fz_facts.proofs.Pairs.{Pairs}
 use Rattle.fz_facts.proofs.Passes.{fewer, is_known, neither}
+use Rattle.fz_facts.proofs.Places.{EachBehind-weaker, few_behind}
 use Rattle.fz_facts.proofs.Shown.{AreMeant, IsRight, Stands, Stated}
 
 -- ---- lists
@@ -60,14 +61,6 @@ all_pass : (c : Context) (n : ℕ) (test : Meant → Option Fault) (kept texts :
 all_pass c n test kept [] h = tt
 all_pass c n test kept (text ∷ texts) h = ((parts c n test kept text h.0).0, all_pass c n test (kept ++ text ∷ []) texts h.1)
 
-few_pass : (c : Context) (n : ℕ) (test : Meant → Option Fault) (kept texts : List BasicText) → length kept ≤ 2000000 → AreFree c n test kept texts → length kept + length texts ≤ 2000000
-few_pass c n test kept [] few h = omega (arith, few)
-few_pass c n test kept (text ∷ texts) few h =
-    let less = (parts c n test kept text h.0).1 in
-    let longer : length (kept ++ text ∷ []) ≡ length kept + 1 = length-append kept (text ∷ []) in
-    let more = few_pass c n test (kept ++ text ∷ []) texts (omega (arith, less, longer)) h.1 in
-    omega (arith, more, longer)
-
 -- ---- their literals and names
 
 module _ (c : Context) (items : List Item) (right : IsRight c items) (n : ℕ) (test : Meant → Option Fault) (texts : List BasicText) (free : AreFree c n test [] texts) where
@@ -81,7 +74,9 @@ module _ (c : Context) (items : List Item) (right : IsRight c items) (n : ℕ) (
 
   pub few_elements : length (elements_of items texts) ≤ 2000000
   few_elements =
-      let few : 0 + length texts ≤ 2000000 = few_pass c n test [] texts (omega arith) free in
+      let few : 0 + length texts ≤ 2000000 =
+      few_behind 2000000 [] texts (omega arith) (EachBehind-weaker (λ before text. (basic (element_fault (counting c n) test before)).fault text ≡ None)
+      (λ before text. length before < 2000000) (λ before text e. (parts c n test before text e).1) [] texts free) in
       let same : length (elements_of items texts) ≡ length texts = length-map texts (basic_of_text items) in
       omega (arith, few, same)
 

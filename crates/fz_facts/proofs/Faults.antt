@@ -14,7 +14,7 @@ use Rattle.fz_model.specs.ModelText.{closing}
 -- ---- one after another
 
 -- there is no first fault
-pub no_faults : {T F : Type 0} (a : Option (F × List T)) (behind : List T) (b : Option (F × List T)) → first_fault a behind b ≡ None → (a ≡ None) × (b ≡ None)
+no_faults : {T F : Type 0} (a : Option (F × List T)) (behind : List T) (b : Option (F × List T)) → first_fault a behind b ≡ None → (a ≡ None) × (b ≡ None)
 no_faults None behind b e = (refl, e)
 no_faults (Some fault) behind b e = absurd cc
 

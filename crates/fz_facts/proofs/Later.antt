@@ -33,7 +33,7 @@ module _ (before after : List Item) (x : Extends before after) where
   stands_later (basic.Bool v) h = tt
   stands_later (basic.Int v) h = tt
 
-  pub term_later : (b : Basic) → Stands before b → term_of after b ≡ term_of before b
+  term_later : (b : Basic) → Stands before b → term_of after b ≡ term_of before b
   term_later (basic.Item place) h = ap (λ o. option_map_or term_of_item o (Const (pos 0))) (x.places place h)
   term_later (basic.Bool v) h = refl
   term_later (basic.Int v) h = refl

@@ -29,7 +29,7 @@ use Rattle.fz_facts.proofs.Typed.{bool_type}
 use Rattle.fz_facts.proofs.VariableSteps.{IsAlias, IsNew}
 
 -- the name has the form of one
-pub spelled_name : (c : Context) (v : VariableWords) → Each IsSpelled ((variable_item c).spell v) → is_name v.1.0 ≡ true
+spelled_name : (c : Context) (v : VariableWords) → Each IsSpelled ((variable_item c).spell v) → is_name v.1.0 ≡ true
 spelled_name c v h =
     let rest = (behind_mark (stop Colon) (chain (name (fresh_variable c)) (λ bytes. annotated (λ notes. variable_end c v.0)))).spell v.1 in
     (Each-append_parts IsSpelled ((var_type (domain_test c) beyond_small).spell v.0) rest h.1).1.1.0
