@@ -1,5 +1,5 @@
 -- The meaning of each constraint, of the values that its arguments have.
-use Rattle.std.specs.Prelude.{ℕ, ◌≤◌, nat_le, Bool, true, false, not, ◌&&◌, ◌||◌, if◌then◌else◌, IsTrue, List, length, map, ℤ, pos, ◌+ℤ◌, int_le, int_lt}
+use Rattle.std.specs.Prelude.{ℕ, nat_le, Bool, true, false, not, ◌&&◌, ◌||◌, if◌then◌else◌, IsTrue, List, length, map, ℤ, pos, ◌+ℤ◌, int_le, int_lt}
 use Rattle.std.specs.List.{list_all, list_any}
 use Rattle.std.specs.Ordering.{int_eq}
 use Rattle.dp_domain.specs.Terms.{term_at}

@@ -1,0 +1,9 @@
+pub mod Rows
+pub mod Products
+pub mod Sums
+pub mod Wides
+pub mod Distinct
+pub mod Usages
+pub mod Capacity
+pub mod MeaningLaws
+pub mod SatisfiesLaws
