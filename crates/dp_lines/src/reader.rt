@@ -1,0 +1,132 @@
+// A reader of the lines of a log that comes in pieces.
+
+ghost use Rattle.std.specs.Prelude.{◌≡◌, ◌+◌, ◌≤◌, ◌^◌, IfOk, IfSome, OnErr, OnOk, length, false};
+ghost use Rattle.dp_lines.specs.Allowed.{IsAllowed};
+ghost use Rattle.dp_lines.specs.Answers.{IfMemory, UnlessMemory};
+ghost use Rattle.dp_lines.specs.Readers as spec;
+
+use crate::Line;
+use crate::refusal::{Limits, LineFault, LineRefusal};
+use crate::step::{First, first_step};
+use dp_domain::Memory;
+use std::alloc::Global;
+use std::marker::Model;
+
+/// A reader of a log. It keeps the bytes that no line has taken.
+#[derive(Drop)]
+pub struct Reader {
+    limits: Limits,
+    count: u64,
+    passed: u64,
+    held: Vec<u8>,
+    start: usize,
+    clear: usize,
+    ended: bool,
+    refusal: Option<LineRefusal>,
+}
+
+impl Model for Reader {
+    ghost use Rattle.std.specs.Prelude.{drop};
+    ghost use Rattle.dp_lines.specs.Kept.{IsKept};
+    ghost use Rattle.dp_lines.specs.Readers.{State};
+
+    ghost Value = { State };
+
+    ghost view = { λ r. record { limits = r.limits; count = r.count; passed = r.passed; held = drop r.start r.held.items; ended = r.ended; refusal = r.refusal } };
+
+    ghost invariant = { λ r. IsKept r.held.items r.start r.clear r.count r.passed };
+}
+
+impl Reader {
+    /// A reader that was fed nothing.
+    pub fn new(alloc: Global, limits: Limits) -> Reader
+        requires line { limits.line ≤ 2 ^ 62 }
+        requires total { limits.total ≤ 2 ^ 62 }
+        ensures { result ≡ spec.fresh limits }
+    {
+        Reader {
+            limits,
+            count: 0,
+            passed: 0,
+            held: Vec::new(alloc),
+            start: 0,
+            clear: 0,
+            ended: false,
+            refusal: None,
+        }
+    }
+
+    /// Takes the next piece of the log.
+    pub fn feed(&mut self, piece: &[u8]) -> Result<(), Memory>
+        requires open_text { self.old.ended ≡ false }
+        requires small { self.old.passed + length self.old.held + length piece.now ≤ 2 ^ 62 }
+        ensures fed { OnOk result (self.new ≡ spec.fed self.old piece.now) }
+        ensures unchanged { OnErr result (self.new ≡ self.old) }
+    {
+        self.held.extend_from_slice(piece)?;
+        Ok(())
+    }
+
+    /// No more bytes come.
+    pub fn end(&mut self)
+        ensures { self.new ≡ spec.closed self.old }
+    {
+        self.ended = true;
+    }
+
+    /// The next line that is not blank, with its number from 1; None exactly where no whole line that is not blank is left
+    /// of what was fed. A refusal comes again. Without memory the reader is as it was.
+    pub fn line(&mut self) -> Result<Option<(u64, Line)>, LineFault>
+        ensures answered { UnlessMemory result (result ≡ spec.answer_of self.old) }
+        ensures passed { UnlessMemory result (self.new ≡ spec.after self.old) }
+        ensures unchanged { IfMemory result (self.new ≡ self.old) }
+        ensures allowed { IfOk result (λ answer. IfSome answer (λ line. IsAllowed line.1)) }
+    {
+        if let Some(refusal) = self.refusal {
+            return Err(LineFault::Refused(refusal));
+        }
+        let alloc = *self.held.allocator();
+        let step = first_step(
+            alloc,
+            self.limits,
+            self.ended,
+            self.passed,
+            self.count,
+            &self.held[self.start..],
+            self.clear,
+        )?;
+        self.count = step.count;
+        self.passed += step.used as u64;
+        self.start += step.used;
+        self.clear = 0;
+        match step.first {
+            First::Line(line) => Ok(Some((step.count, line))),
+            First::Refusal(refusal) => {
+                self.refusal = Some(refusal);
+                Err(LineFault::Refused(refusal))
+            }
+            First::Nothing => {
+                self.forget();
+                self.clear = self.held.len();
+                Ok(None)
+            }
+        }
+    }
+
+    /// Gives up the bytes that lines have taken.
+    fn forget(&mut self)
+        ensures { self.new ≡ self.old }
+    {
+        if self.start > 0 {
+            drop(self.held.drain(..self.start));
+            self.start = 0;
+        }
+    }
+
+    /// The number of lines, blank ones included, that were given or passed over.
+    pub fn lines_seen(&self) -> u64
+        ensures { result ≡ self.now.count }
+    {
+        self.count
+    }
+}
