@@ -1,0 +1,4 @@
+pub mod AllowedLaws
+pub mod ManyLaws
+pub mod RawLaws
+pub mod WordLaws

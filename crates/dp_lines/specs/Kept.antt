@@ -3,9 +3,12 @@ use Rattle.std.specs.Prelude.{◌≡◌, ℕ, ◌+◌, ◌-◌, ◌<◌, ◌≤�
 use Rattle.std.specs.List.{list_all}
 use Rattle.dp_lines.specs.RawLines.{Raw, raw_lines, size}
 
+abbrev pub is_no_feed : ℕ → Bool
+is_no_feed b = not (b == 10)
+
 -- none of the bytes is a line feed
 abbrev pub has_no_feed : List ℕ → Bool
-has_no_feed bytes = list_all (λ b. not (b == 10)) bytes
+has_no_feed bytes = list_all is_no_feed bytes
 
 -- whether the first line is whole
 abbrev pub begins_whole : Bool → List Raw → Bool

@@ -50,13 +50,19 @@ fn digit_value(byte: u8) -> u64
     }
 }
 
+fn all_digits(text: &[u8]) -> bool
+    ensures { result ≡ list_all words.is_decimal text.now }
+{
+    text.iter().all(|byte| byte.is_ascii_digit())
+}
+
 /// Whether these are one or more decimal digits.
 fn are_digits(text: &[u8]) -> bool
     ensures { result ≡ spec.are_digits text.now }
 {
     match text {
         [] => false,
-        [_, ..] => text.iter().all(|byte| byte.is_ascii_digit()),
+        [_, ..] => all_digits(text),
     }
 }
 

@@ -1,13 +1,15 @@
 // A reader of the lines of a log that comes in pieces.
 
-ghost use Rattle.std.specs.Prelude.{◌≡◌, ◌+◌, ◌≤◌, ◌^◌, IfOk, IfSome, OnErr, OnOk, length, false};
+ghost use Rattle.std.specs.Prelude.{◌≡◌, ◌+◌, ◌≤◌, ◌^◌, None, IfOk, IfSome, OnErr, OnOk, drop, length, true, false};
 ghost use Rattle.dp_lines.specs.Allowed.{IsAllowed};
 ghost use Rattle.dp_lines.specs.Answers.{IfMemory, UnlessMemory};
+ghost use Rattle.dp_lines.specs.Kept.{has_no_feed};
 ghost use Rattle.dp_lines.specs.Readers as spec;
+ghost use Rattle.dp_lines.specs.declared.step.First.TheVariants.{Nothing};
 
 use crate::Line;
 use crate::refusal::{Limits, LineFault, LineRefusal};
-use crate::step::{First, first_step};
+use crate::step::{First, Step, first_step};
 use dp_domain::Memory;
 use std::alloc::Global;
 use std::marker::Model;
@@ -85,42 +87,64 @@ impl Reader {
         if let Some(refusal) = self.refusal {
             return Err(LineFault::Refused(refusal));
         }
-        let alloc = *self.held.allocator();
-        let step = first_step(
-            alloc,
-            self.limits,
-            self.ended,
-            self.passed,
-            self.count,
-            &self.held[self.start..],
-            self.clear,
-        )?;
-        self.count = step.count;
-        self.passed += step.used as u64;
-        self.start += step.used;
-        self.clear = 0;
-        match step.first {
-            First::Line(line) => Ok(Some((step.count, line))),
+        let Step { first, count, used } = self.step()?;
+        self.pass(count, used);
+        match first {
+            First::Line(line) => Ok(Some((count, line))),
             First::Refusal(refusal) => {
                 self.refusal = Some(refusal);
                 Err(LineFault::Refused(refusal))
             }
             First::Nothing => {
                 self.forget();
-                self.clear = self.held.len();
                 Ok(None)
             }
         }
     }
 
-    /// Gives up the bytes that lines have taken.
+    /// What comes next.
+    fn step(&self) -> Result<Step, Memory>
+        requires { self.now.refusal ≡ None }
+        ensures step { IfOk result (λ step. step ≡ spec.step_of self.now) }
+        ensures within { IfOk result (λ step. step.used ≤ length self.now.held) }
+        ensures lines { IfOk result (λ step. step.count ≤ self.now.passed + step.used) }
+        ensures nothing { IfOk result (λ step. step.first ≡ Nothing → has_no_feed (drop step.used self.now.held) ≡ true) }
+    {
+        let alloc = *self.held.allocator();
+        let (_, held) = self.held.as_slice().split_at(self.start);
+        first_step(
+            alloc,
+            self.limits,
+            self.ended,
+            self.passed,
+            self.count,
+            held,
+            self.clear,
+        )
+    }
+
+    /// Passes lines up to this count, which have these bytes.
+    fn pass(&mut self, count: u64, used: usize)
+        requires within { used ≤ length self.old.held }
+        requires lines { count ≤ self.old.passed + used }
+        ensures { self.new ≡ record self.old { count = count; passed = self.old.passed + used; held = drop used self.old.held } }
+    {
+        self.count = count;
+        self.passed += used as u64;
+        self.start += used;
+        self.clear = 0;
+    }
+
+    /// Gives up the bytes that lines have taken, where none of the others is a line feed.
     fn forget(&mut self)
+        requires { has_no_feed self.old.held ≡ true }
         ensures { self.new ≡ self.old }
     {
         if self.start > 0 {
             drop(self.held.drain(..self.start));
             self.start = 0;
         }
+        self.clear = self.held.len();
     }
 
     /// The number of lines, blank ones included, that were given or passed over.

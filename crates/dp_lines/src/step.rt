@@ -1,7 +1,8 @@
 // What a text that comes in pieces gives next.
 
-ghost use Rattle.std.specs.Prelude.{◌≡◌, ◌+◌, ◌≤◌, ◌<◌, ◌^◌, true, false, IfNone, IfOk, IfSome, drop, length, slice_index, take};
-ghost use Rattle.dp_lines.specs.Kept.{IsFirst, begins_whole, has_no_feed};
+ghost use Rattle.std.specs.Prelude.{◌≡◌, ◌+◌, ◌≤◌, ◌<◌, ◌^◌, true, false, IfNone, IfOk, IfSome, drop, length, take};
+ghost use Rattle.std.specs.List.{prefix_len};
+ghost use Rattle.dp_lines.specs.Kept.{IsFirst, begins_whole, has_no_feed, is_no_feed};
 ghost use Rattle.dp_lines.specs.RawLines.{raw_lines};
 ghost use Rattle.dp_lines.specs.Readers as spec;
 ghost use Rattle.dp_lines.specs.declared.step.First.TheVariants.{Nothing};
@@ -28,33 +29,42 @@ pub struct Step {
     pub used: usize,
 }
 
-/// The place of the first line feed from `clear` on, before which there is none.
-fn feed_place(held: &[u8], clear: usize) -> Option<usize>
-    requires cleared { clear ≤ length held.now }
-    requires no_feed { has_no_feed (take clear held.now) ≡ true }
-    ensures none { IfNone result (has_no_feed held.now ≡ true) }
-    ensures within { IfSome result (λ place. place < length held.now) }
-    ensures feed { IfSome result (λ place. slice_index held.now place ≡ 10) }
-    ensures before { IfSome result (λ place. has_no_feed (take place held.now) ≡ true) }
+fn line_len(text: &[u8]) -> usize
+    ensures value { result ≡ prefix_len is_no_feed text.now }
+    ensures within { result ≤ length text.now }
 {
-    let (_, rest) = held.split_at(clear);
-    let place = rest.iter().position(|byte| *byte == b'\n')?;
-    Some(clear + place)
+    text.iter().take_while(|byte| **byte != b'\n').count()
 }
 
-/// The bytes of the first whole line, and whether a line feed follows them. The first `clear` of the held bytes are no
-/// line feeds.
+/// How many bytes stand before the first line feed, or in all where there is none. The first `clear` are no line feeds.
+#[tactic(auto, using(crate::proofs::RawLaws::prefix_behind))]
+fn first_len(held: &[u8], clear: usize) -> usize
+    requires cleared { clear ≤ length held.now }
+    requires no_feed { has_no_feed (take clear held.now) ≡ true }
+    ensures value { result ≡ prefix_len is_no_feed held.now }
+    ensures within { result ≤ length held.now }
+{
+    let (_, rest) = held.split_at(clear);
+    clear + line_len(rest)
+}
+
+/// The bytes of the first whole line, and whether a line feed follows them.
 fn first_line(held: &[u8], clear: usize, ended: bool) -> Option<(&[u8], bool)>
     requires cleared { clear ≤ length held.now }
     requires no_feed { has_no_feed (take clear held.now) ≡ true }
     ensures none { IfNone result (begins_whole ended (raw_lines held.now) ≡ false) }
+    ensures no_feed { IfNone result (has_no_feed held.now ≡ true) }
     ensures first { IfSome result (λ line. IsFirst ended held.now (record { bytes = line.0.now; fed = line.1 })) }
 {
-    match feed_place(held, clear) {
-        Some(place) => Some((&held[..place], true)),
-        None if ended && !held.is_empty() => Some((held, false)),
-        None => None,
+    let len = first_len(held, clear);
+    if len < held.len() {
+        let (bytes, _) = held.split_at(len);
+        return Some((bytes, true));
     }
+    if ended && len > 0 {
+        return Some((held, false));
+    }
+    None
 }
 
 /// What comes first in the held bytes, behind `count` lines with `passed` bytes.
