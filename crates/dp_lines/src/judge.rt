@@ -65,7 +65,7 @@ pub fn judge(
     bytes: &[u8],
     fed: bool,
 ) -> Result<Judged, Memory>
-    requires { passed + (length bytes.now + 1) ≤ 2 ^ 62 }
+    requires { passed + length bytes.now ≤ 2 ^ 62 }
     ensures { IfOk result (λ judged. judged ≡ spec.judged limits number passed (record { bytes = bytes.now; fed = fed })) }
 {
     let len = bytes.len() as u64;

@@ -3,6 +3,7 @@
 ghost use Rattle.std.specs.Prelude.{◌≡◌, ◌+◌, ◌≤◌, ◌<◌, ◌^◌, true, false, IfNone, IfOk, IfSome, drop, length, take};
 ghost use Rattle.std.specs.List.{prefix_len};
 ghost use Rattle.dp_lines.specs.Kept.{IsFirst, begins_whole, has_no_feed, is_no_feed};
+ghost use Rattle.dp_lines.specs.RawLines as raw;
 ghost use Rattle.dp_lines.specs.RawLines.{raw_lines};
 ghost use Rattle.dp_lines.specs.Readers as spec;
 ghost use Rattle.dp_lines.specs.declared.step.First.TheVariants.{Nothing};
@@ -67,6 +68,22 @@ fn first_line(held: &[u8], clear: usize, ended: bool) -> Option<(&[u8], bool)>
     None
 }
 
+fn rest_of(held: &[u8], used: usize) -> &[u8]
+    requires { used ≤ length held.now }
+    ensures { result.now ≡ drop used held.now }
+{
+    let (_, rest) = held.split_at(used);
+    rest
+}
+
+/// How many bytes a line has with its line feed.
+fn size(bytes: &[u8], fed: bool) -> usize
+    requires { length bytes.now ≤ 2 ^ 62 }
+    ensures { result ≡ raw.size (record { bytes = bytes.now; fed = fed }) }
+{
+    if fed { bytes.len() + 1 } else { bytes.len() }
+}
+
 /// What comes first in the held bytes, behind `count` lines with `passed` bytes.
 pub fn first_step(
     alloc: Global,
@@ -89,8 +106,8 @@ pub fn first_step(
     let mut count = count;
     let mut used = 0;
     let mut clear = clear;
-    while let Some((bytes, fed)) = first_line(&held[used..], clear, ended) {
-        let size = if fed { bytes.len() + 1 } else { bytes.len() };
+    while let Some((bytes, fed)) = first_line(rest_of(held, used), clear, ended) {
+        let size = size(bytes, fed);
         match judge(alloc, limits, count + 1, passed + used as u64, bytes, fed)? {
             Judged::Blank => {
                 count += 1;
