@@ -1,8 +1,8 @@
 -- The first raw line of a text.
-use Rattle.std.proofs.Common.{◌≡◌, ℕ, zero, suc, ◌+◌, ◌-◌, ◌<◌, ◌≤◌, Bool, true, false, cond, not, ◌&&◌, ◌||◌, eqb, List, [], ◌∷◌, length, take, drop, refl, sym, ap, ◌∙◌, arith, inl, inr, length-take-le}
-use Rattle.std.specs.List.{list_all, prefix_len}
-use Rattle.std.proofs.lemmas.Bool.{cases_Bool}
-use Rattle.std.proofs.lemmas.List.{drop_all}
+use Rattle.std.proofs.Common.{◌≡◌, ℕ, zero, suc, ◌+◌, ◌<◌, ◌≤◌, Bool, true, false, cond, not, ◌&&◌, ◌||◌, eqb, List, [], ◌∷◌, ◌++◌, length, length-append, take, drop, refl, sym, ap, ◌∙◌, arith, inl, inr, length-take-le}
+use Rattle.std.specs.List.{prefix_len}
+use Rattle.std.proofs.lemmas.Bool.{cases_Bool, cases_lt}
+use Rattle.std.proofs.lemmas.List.{append-nil, drop_all, drop-append-le, take-append-le}
 use Rattle.dp_lines.specs.Kept.{IsFirst, begins_whole, has_no_feed, is_no_feed}
 use Rattle.dp_lines.specs.RawLines.{Raw, raw_lines, size, with_byte}
 
@@ -101,3 +101,79 @@ begins_unfed (b ∷ s) le = ap (λ (raws : List Raw). begins_whole false raws) (
 pub begins_empty : (ended : Bool) (s : List ℕ) → length s ≤ 0 → begins_whole ended (raw_lines s) ≡ false
 begins_empty ended [] le = refl
 begins_empty ended (b ∷ s) le = absurd (omega arith)
+
+-- what follows a first raw line that is whole, and the same where more bytes stand behind
+pub record IsCut (t more : List ℕ) (raw : Raw) (raws : List Raw) : Type 0 where
+  pub behind : raws ≡ raw_lines (drop (size raw) t)
+  pub again : raw_lines (t ++ more) ≡ raw ∷ raw_lines (drop (size raw) t ++ more)
+
+prefix_append : (t more : List ℕ) → prefix_len is_no_feed t < length t → prefix_len is_no_feed (t ++ more) ≡ prefix_len is_no_feed t
+prefix_append [] more lt = absurd (omega arith)
+prefix_append (b ∷ t) more lt =
+    elim (cases_Bool (is_no_feed b)) [
+      | inl is ↦
+          let one : prefix_len is_no_feed (b ∷ t) ≡ 1 + prefix_len is_no_feed t = ap (λ (c : Bool). cond c (1 + prefix_len is_no_feed t) 0) is in
+          let later = prefix_append t more (omega (arith, one)) in
+          ap (λ (c : Bool). cond c (1 + prefix_len is_no_feed (t ++ more)) 0) is ∙ ap (λ (k : ℕ). 1 + k) later ∙ sym one
+      | inr isnt ↦ ap (λ (c : Bool). cond c (1 + prefix_len is_no_feed (t ++ more)) 0) isnt ∙ sym (ap (λ (c : Bool). cond c (1 + prefix_len is_no_feed t) 0) isnt)
+    ]
+
+again_fed : (t more : List ℕ) → prefix_len is_no_feed t < length t →
+    raw_lines (t ++ more) ≡ record { bytes = take (prefix_len is_no_feed t) t; fed = true } ∷ raw_lines (drop (prefix_len is_no_feed t + 1) t ++ more)
+again_fed t more lt =
+    let same = prefix_append t more lt in
+    let n : ℕ = prefix_len is_no_feed t in
+    let total : prefix_len is_no_feed (t ++ more) < length (t ++ more) = omega (arith, same, length-append t more) in
+    let le : n ≤ length t = omega arith in
+    let whole : n + 1 ≤ length t = omega arith in
+    raw_fed (t ++ more) total ∙ ap (λ (k : ℕ). cut_at_feed k (t ++ more)) same
+    ∙ rw (take-append-le n t more le, drop-append-le (n + 1) t more whole) refl
+
+abbrev head_of : Raw → List Raw → Raw
+head_of d [] = d
+head_of d (raw ∷ raws) = raw
+
+-- by the first line feed
+cut_by : (t more : List ℕ) (raw : Raw) (raws : List Raw) → prefix_len is_no_feed t < length t → raw_lines t ≡ raw ∷ raws → IsCut t more raw raws
+cut_by t more raw raws lt e =
+    let n : ℕ = prefix_len is_no_feed t in
+    let both_ways : raw ∷ raws ≡ cut_at_feed n t = sym e ∙ raw_fed t lt in
+    let head : raw ≡ record { bytes = take n t; fed = true } = ap (head_of raw) both_ways in
+    let tail : raws ≡ raw_lines (drop (n + 1) t) = ap (λ (rs : List Raw). drop 1 rs) both_ways in
+    let z : size raw ≡ n + 1 = ap size head ∙ fed_size t n lt in
+    record {
+      behind = tail ∙ ap (λ (k : ℕ). raw_lines (drop k t)) (sym z);
+      again = again_fed t more lt ∙ ap (λ (r : Raw). r ∷ raw_lines (drop (n + 1) t ++ more)) (sym head) ∙ ap (λ (k : ℕ). raw ∷ raw_lines (drop k t ++ more)) (sym z);
+    }
+
+-- by the text's end
+cut_at_end : (t more : List ℕ) (raw : Raw) (raws : List Raw) → length t ≤ prefix_len is_no_feed t → raw_lines t ≡ raw ∷ raws → more ≡ [] → IsCut t more raw raws
+cut_at_end [] more raw raws le e none = absurd cc
+cut_at_end (b ∷ t) more raw raws le e none =
+    let s : List ℕ = b ∷ t in
+    let both_ways : raw ∷ raws ≡ record { bytes = s; fed = false } ∷ [] = sym e ∙ raw_unfed s (prefix_whole s le) (omega arith) in
+    let head : raw ≡ record { bytes = s; fed = false } = ap (head_of raw) both_ways in
+    let tail : raws ≡ [] = ap (λ (rs : List Raw). drop 1 rs) both_ways in
+    let z : size raw ≡ length s = ap size head in
+    let nothing : drop (size raw) s ≡ [] = drop_all (size raw) s (omega (arith, z)) in
+    let alone : raw_lines (s ++ more) ≡ raw ∷ raws = ap (λ (m : List ℕ). raw_lines (s ++ m)) none ∙ ap raw_lines (append-nil s) ∙ e in
+    record {
+      behind = tail ∙ ap raw_lines (sym nothing);
+      again = alone ∙ ap (λ (rs : List Raw). raw ∷ rs) tail ∙ sym (ap (λ (m : List ℕ). raw ∷ raw_lines (drop (size raw) s ++ m)) none ∙ ap (λ (m : List ℕ). raw ∷ raw_lines (m ++ [])) nothing);
+    }
+
+unfed_first : (t : List ℕ) (raw : Raw) (raws : List Raw) → length t ≤ prefix_len is_no_feed t → raw_lines t ≡ raw ∷ raws → raw.fed ≡ false
+unfed_first [] raw raws le e = absurd cc
+unfed_first (b ∷ t) raw raws le e =
+    let both_ways : raw ∷ raws ≡ record { bytes = b ∷ t; fed = false } ∷ [] = sym e ∙ raw_unfed (b ∷ t) (prefix_whole (b ∷ t) le) (omega arith) in
+    ap (λ (r : Raw). r.fed) (ap (head_of raw) both_ways)
+
+pub cut_is : (t more : List ℕ) (raw : Raw) (raws : List Raw) (ended : Bool) → raw_lines t ≡ raw ∷ raws → (raw.fed || ended) ≡ true → (ended ≡ true → more ≡ []) → IsCut t more raw raws
+cut_is t more raw raws ended e whole none =
+    elim (cases_lt (prefix_len is_no_feed t) (length t)) [
+      | inl lt ↦ cut_by t more raw raws lt e
+      | inr le ↦
+          let unfed = unfed_first t raw raws le e in
+          let over : ended ≡ true = sym (ap (λ (f : Bool). f || ended) unfed) ∙ whole in
+          cut_at_end t more raw raws le e (none over)
+    ]

@@ -1,12 +1,12 @@
 -- The first word of a line from a place on.
-use Rattle.std.proofs.Common.{◌≡◌, ◌≢◌, eq-eqb, ℕ, zero, suc, ◌+◌, ◌-◌, ◌<◌, ◌≤◌, Bool, true, false, cond, not, ◌&&◌, ◌||◌, eqb, get_or, List, [], ◌∷◌, length, take, drop, refl, sym, ap, ◌∙◌, arith, inl, inr}
+use Rattle.std.proofs.Common.{◌≡◌, ◌≢◌, eq-eqb, ℕ, zero, suc, ◌+◌, ◌-◌, ◌<◌, ◌≤◌, Bool, true, false, cond, not, eqb, get_or, List, [], ◌∷◌, length, take, drop, refl, sym, ap, ◌∙◌, arith, inl, inr}
 use Rattle.std.specs.List.{prefix_len}
 use Rattle.std.proofs.lemmas.Bool.{cases_Bool, eqb-false, eqb-true, ne_eqb}
 use Rattle.std.proofs.lemmas.List.{drop-drop, get_or-drop, length-drop}
 use Rattle.std.proofs.lemmas.List.Sums.{prefix_len_stops}
 use Rattle.dp_base.specs.Names.{is_first, is_later}
 use Rattle.dp_lines.specs.Parts.{is_done}
-use Rattle.dp_lines.specs.Words.{Word, begins_comparison, begins_negative, closes, end_of, field_len, front_word, is_blank, is_decimal, is_inside_behind, opens, token_len, word_len, words_from}
+use Rattle.dp_lines.specs.Words.{Word, begins_comparison, begins_negative, end_of, field_len, front_word, is_blank, is_decimal, is_inside_behind, opens, token_len, word_len, words_from}
 
 -- the bytes of the word before say nothing
 pub words_behind : (inside : Bool) (at k : ℕ) (s : List ℕ) → words_from inside at k s ≡ words_from inside (at + k) 0 (drop k s)
@@ -112,9 +112,9 @@ word_front inside at b s h =
     let same : drop (n - 1) s ≡ drop n (b ∷ s) = sym (ap (λ (k : ℕ). drop k (b ∷ s)) e) in
     word_stepped inside at b s false h
     ∙ ap (λ (ws : List Word). record { at = at; text = take n (b ∷ s) } ∷ ws)
-      (words_behind (is_inside_behind inside b) (at + 1) (n - 1) s
-       ∙ ap (λ (k : ℕ). words_from (is_inside_behind inside b) k 0 (drop (n - 1) s)) z
-       ∙ ap (λ (t : List ℕ). words_from (is_inside_behind inside b) (at + n) 0 t) same)
+    (words_behind (is_inside_behind inside b) (at + 1) (n - 1) s
+    ∙ ap (λ (k : ℕ). words_from (is_inside_behind inside b) k 0 (drop (n - 1) s)) z
+    ∙ ap (λ (t : List ℕ). words_from (is_inside_behind inside b) (at + n) 0 t) same)
 
 front_led : (inside : Bool) (at : ℕ) (w : List ℕ) → 0 < length w → is_blank (get_or w 0 0) ≡ false → words_from inside at 0 w ≡ led inside at w
 front_led inside at [] some h = absurd (omega arith)

@@ -1,5 +1,5 @@
 -- Which words make which line, and the first flaw of words that make none.
-use Rattle.std.specs.Prelude.{ℕ, Bool, true, false, not, ◌||◌, if◌then◌else◌, Option, Some, None, Result, Ok, Err, List, [], ◌∷◌, drop, ℤ, codes}
+use Rattle.std.specs.Prelude.{ℕ, Bool, false, not, ◌||◌, if◌then◌else◌, Option, Some, None, Result, Ok, Err, List, [], ◌∷◌, drop, ℤ, codes}
 use Rattle.std.specs.Str.{bytes_eq}
 use Rattle.dp_lines.specs.Figures.{constraint_at, is_constraint, is_label_field, is_nought, kind_at, label_at, literal_at, mark_at, name_at, number_at, op_at, value_at}
 use Rattle.dp_lines.specs.Words.{Word, front_word}

@@ -7,5 +7,7 @@ pub mod Lines
 pub mod Parts
 pub mod RawLines
 pub mod Readers
+pub mod Runs
 pub mod Spelling
+pub mod Standing
 pub mod Words

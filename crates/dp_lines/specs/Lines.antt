@@ -1,5 +1,5 @@
 -- The lines of a log.
-use Rattle.std.specs.Prelude.{ℕ, ◌+◌, nat_lt, if◌then◌else◌, Option, Some, None, Result, Ok, Err, List, [], ◌∷◌, length}
+use Rattle.std.specs.Prelude.{ℕ, ◌+◌, nat_lt, if◌then◌else◌, Option, Some, None, Ok, Err, List, [], ◌∷◌, length}
 use Rattle.dp_lines.specs.Fields.{Reading, line_of}
 use Rattle.dp_lines.specs.RawLines.{Raw, content, raw_lines, size}
 use Rattle.dp_lines.specs.Words.{Word, end_of, words}

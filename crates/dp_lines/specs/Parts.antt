@@ -1,5 +1,5 @@
 -- What a function returned, beside what the definitions say of the same words.
-use Rattle.std.specs.Prelude.{◌≡◌, ℕ, Bool, true, false, [], ◌∷◌, Option, Some, None, Result, Ok, Err, List}
+use Rattle.std.specs.Prelude.{◌≡◌, ℕ, Bool, true, false, [], ◌∷◌, Result, Ok, Err, List}
 use Rattle.dp_lines.specs.Fields.{Reading}
 use Rattle.dp_lines.specs.Words.{Word}
 use Rattle.dp_lines.specs.declared.refusal.Fault.{Fault}

@@ -1,6 +1,6 @@
 -- A reader of lines that is fed a text in pieces: what it keeps, and the lines that this stands for.
 use Rattle.std.specs.Prelude.{ℕ, ◌+◌, Bool, true, false, ◌||◌, if◌then◌else◌, Option, Some, None, Result, Ok, Err, List, [], ◌∷◌, ◌++◌, drop}
-use Rattle.dp_lines.specs.Lines.{Lines, judged, lines_behind, no_lines, refused, with_line}
+use Rattle.dp_lines.specs.Lines.{Lines, judged, lines_behind, refused}
 use Rattle.dp_lines.specs.RawLines.{Raw, raw_lines, size}
 use Rattle.dp_lines.specs.declared.line.Line.{Line}
 use Rattle.dp_lines.specs.declared.refusal.Limits.{Limits}

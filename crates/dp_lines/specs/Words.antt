@@ -1,5 +1,5 @@
 -- The words of a line: its fields, and within square brackets shorter tokens.
-use Rattle.std.specs.Prelude.{ℕ, zero, suc, ◌+◌, ◌-◌, Bool, true, false, not, ◌&&◌, ◌||◌, ◌==◌, if◌then◌else◌, List, [], ◌∷◌, take, drop, length, slice_index}
+use Rattle.std.specs.Prelude.{ℕ, zero, suc, ◌+◌, ◌-◌, Bool, false, not, ◌&&◌, ◌||◌, ◌==◌, if◌then◌else◌, List, [], ◌∷◌, take, drop, length, slice_index}
 use Rattle.std.specs.Char.{is_digit}
 use Rattle.std.specs.List.{prefix_len}
 use Rattle.dp_base.specs.Names.{is_first, is_later}

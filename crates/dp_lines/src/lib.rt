@@ -4,6 +4,7 @@
 mod fields;
 mod figures;
 mod judge;
+pub mod laws;
 mod line;
 mod lists;
 mod reader;

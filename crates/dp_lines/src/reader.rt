@@ -5,6 +5,7 @@ ghost use Rattle.dp_lines.specs.Allowed.{IsAllowed};
 ghost use Rattle.dp_lines.specs.Answers.{IfMemory, UnlessMemory};
 ghost use Rattle.dp_lines.specs.Kept.{has_no_feed};
 ghost use Rattle.dp_lines.specs.Readers as spec;
+ghost use Rattle.dp_lines.specs.Standing.{Told};
 ghost use Rattle.dp_lines.specs.declared.step.First.TheVariants.{Nothing};
 
 use crate::Line;
@@ -79,6 +80,17 @@ impl Reader {
     /// The next line that is not blank, with its number from 1; None exactly where no whole line that is not blank is left
     /// of what was fed. A refusal comes again. Without memory the reader is as it was.
     pub fn line(&mut self) -> Result<Option<(u64, Line)>, LineFault>
+        ensures answered { UnlessMemory result (result ≡ spec.answer_of self.old) }
+        ensures passed { UnlessMemory result (self.new ≡ spec.after self.old) }
+        ensures unchanged { IfMemory result (self.new ≡ self.old) }
+        ensures told { Told result self.old self.new }
+        ensures allowed { IfOk result (λ answer. IfSome answer (λ line. IsAllowed line.1)) }
+    {
+        self.advance()
+    }
+
+    /// The first of the lines that are left, and the state behind it.
+    fn advance(&mut self) -> Result<Option<(u64, Line)>, LineFault>
         ensures answered { UnlessMemory result (result ≡ spec.answer_of self.old) }
         ensures passed { UnlessMemory result (self.new ≡ spec.after self.old) }
         ensures unchanged { IfMemory result (self.new ≡ self.old) }

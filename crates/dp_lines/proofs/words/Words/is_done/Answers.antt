@@ -1,7 +1,5 @@
 use Rattle.std.proofs.Common.{ap, ◌∙◌, ◌+◌, drop}
-use Rattle.std.specs.List.{prefix_len}
 use Rattle.dp_lines.specs.Parts.{Left, is_done}
-use Rattle.dp_lines.specs.Words.{is_blank}
 use Rattle.dp_lines.proofs.WordLaws.{done_is}
 use Rattle.dp_lines.proofs.words.Words.is_done.Goals as goal
 
