@@ -1,5 +1,5 @@
 -- A reader of lines that is fed a text in pieces: what it keeps, and the lines that this stands for.
-use Rattle.std.specs.Prelude.{ℕ, ◌+◌, Bool, true, false, ◌||◌, if◌then◌else◌, Option, Some, None, Result, Ok, Err, List, [], ◌∷◌, ◌++◌, drop}
+use Rattle.std.specs.Prelude.{ℕ, ◌+◌, Bool, true, false, ◌||◌, if◌then◌else◌, Option, Some, None, Result, Ok, Err, List, [], ◌∷◌, ◌++◌, length, drop}
 use Rattle.dp_lines.specs.Lines.{Lines, judged, lines_behind, refused}
 use Rattle.dp_lines.specs.RawLines.{Raw, raw_lines, size}
 use Rattle.dp_lines.specs.declared.line.Line.{Line}
@@ -30,6 +30,10 @@ fresh limits = record { limits = limits; count = 0; passed = 0; held = []; ended
 -- the piece stands behind what is held
 abbrev pub fed : State → List ℕ → State
 fed s piece = record s { held = s.held ++ piece }
+
+-- how many bytes were fed
+abbrev pub total : State → ℕ
+total s = s.passed + length s.held
 
 -- no more bytes come
 abbrev pub closed : State → State

@@ -62,7 +62,7 @@ impl Reader {
     /// Takes the next piece of the log.
     pub fn feed(&mut self, piece: &[u8]) -> Result<(), Memory>
         requires open_text { self.old.ended ≡ false }
-        requires small { self.old.passed + length self.old.held + length piece.now ≤ 2 ^ 62 }
+        requires small { spec.total self.old + length piece.now ≤ 2 ^ 62 }
         ensures fed { OnOk result (self.new ≡ spec.fed self.old piece.now) }
         ensures unchanged { OnErr result (self.new ≡ self.old) }
     {
@@ -84,6 +84,8 @@ impl Reader {
         ensures passed { UnlessMemory result (self.new ≡ spec.after self.old) }
         ensures unchanged { IfMemory result (self.new ≡ self.old) }
         ensures told { Told result self.old self.new }
+        ensures total { spec.total self.new ≡ spec.total self.old }
+        ensures ended { self.new.ended ≡ self.old.ended }
         ensures allowed { IfOk result (λ answer. IfSome answer (λ line. IsAllowed line.1)) }
     {
         self.advance()
@@ -94,6 +96,8 @@ impl Reader {
         ensures answered { UnlessMemory result (result ≡ spec.answer_of self.old) }
         ensures passed { UnlessMemory result (self.new ≡ spec.after self.old) }
         ensures unchanged { IfMemory result (self.new ≡ self.old) }
+        ensures total { spec.total self.new ≡ spec.total self.old }
+        ensures ended { self.new.ended ≡ self.old.ended }
         ensures allowed { IfOk result (λ answer. IfSome answer (λ line. IsAllowed line.1)) }
     {
         if let Some(refusal) = self.refusal {
