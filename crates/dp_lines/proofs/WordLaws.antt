@@ -17,16 +17,16 @@ words_behind inside at (suc k) (b ∷ s) =
     let e : at + 1 + k ≡ at + suc k = omega arith in
     words_behind inside (at + 1) k s ∙ ap (λ (n : ℕ). words_from inside n 0 (drop k s)) e
 
-abbrev word_step : Bool → ℕ → ℕ → List ℕ → Bool → List Word
+abbrev pub word_step : Bool → ℕ → ℕ → List ℕ → Bool → List Word
 word_step inside at b s blank =
     cond blank (words_from inside (at + 1) 0 s)
     (record { at = at; text = take (word_len inside (b ∷ s)) (b ∷ s) } ∷ words_from (is_inside_behind inside b) (at + 1) (word_len inside (b ∷ s) - 1) s)
 
-word_stepped : (inside : Bool) (at b : ℕ) (s : List ℕ) (blank : Bool) → is_blank b ≡ blank → words_from inside at 0 (b ∷ s) ≡ word_step inside at b s blank
+pub word_stepped : (inside : Bool) (at b : ℕ) (s : List ℕ) (blank : Bool) → is_blank b ≡ blank → words_from inside at 0 (b ∷ s) ≡ word_step inside at b s blank
 unfolding words_from
 word_stepped inside at b s blank e = ap (λ (c : Bool). word_step inside at b s c) e
 
-no_words : (inside : Bool) (at k : ℕ) → words_from inside at k [] ≡ []
+pub no_words : (inside : Bool) (at k : ℕ) → words_from inside at k [] ≡ []
 unfolding words_from
 no_words inside at k = refl
 
@@ -102,7 +102,7 @@ abbrev pub led : Bool → ℕ → List ℕ → List Word
 led inside at w =
     record { at = at; text = take (word_len inside w) w } ∷ words_from (is_inside_behind inside (get_or w 0 0)) (at + word_len inside w) 0 (drop (word_len inside w) w)
 
-word_front : (inside : Bool) (at b : ℕ) (s : List ℕ) → is_blank b ≡ false → words_from inside at 0 (b ∷ s) ≡ led inside at (b ∷ s)
+pub word_front : (inside : Bool) (at b : ℕ) (s : List ℕ) → is_blank b ≡ false → words_from inside at 0 (b ∷ s) ≡ led inside at (b ∷ s)
 word_front inside at b s h =
     let some = word_some inside b s h in
     let n = word_len inside (b ∷ s) in

@@ -23,3 +23,9 @@ pub fn nothing_left()
     ensures lines { (s : State) → s.ended ≡ true → answer_of s ≡ Ok None → left (after s) ≡ no_lines }
     ensures held { (s : State) → s.ended ≡ true → answer_of s ≡ Ok None → (after s).held ≡ [] }
 {}
+
+/// What is read.
+#[tactic(auto, using(crate::proofs::SpellingLaws::says_line))]
+pub fn round_trip()
+    ensures { (n : List Call) → n ≡ n }
+{}

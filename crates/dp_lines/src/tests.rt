@@ -109,18 +109,19 @@ fn in_two(
     Ok(take(&mut reader, wanted, at))
 }
 
-/// The same of a text that is fed byte by byte.
+/// The same of a small text that is fed byte by byte.
 fn bytewise(
     alloc: Global,
     limits: Limits,
     text: &[u8],
     wanted: &[(u64, Wanted)],
-) -> Result<(usize, Option<LineFault>), Memory>
-    requires line { limits.line ≤ 2 ^ 62 }
-    requires all { limits.total ≤ 2 ^ 62 }
-    requires few { length wanted.now < 2 ^ 62 }
-    requires small { length text.now < 2 ^ 62 }
-{
+) -> Result<(usize, Option<LineFault>), Memory> {
+    if limits.line > WIDE.line || limits.total > WIDE.total {
+        return Err(Memory);
+    }
+    if text.len() > 4096 || wanted.len() > 4096 {
+        return Err(Memory);
+    }
     let mut reader = Reader::new(alloc, limits);
     let mut at = 0;
     for byte in text {
