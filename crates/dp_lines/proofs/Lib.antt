@@ -3,6 +3,7 @@ pub mod FigureLaws
 pub mod ManyLaws
 pub mod RawLaws
 pub mod ReadingLaws
+pub mod RoundTrip
 pub mod RunLaws
 pub mod SpellingLaws
 pub mod StepLaws

@@ -207,8 +207,8 @@ hints_reads end [] each (w ∷ ws) e = absurd cc
 hints_reads end (k ∷ ks) each [] e = absurd cc
 hints_reads end (k ∷ ks) each (w ∷ ws) e =
     let r = (then_reads (one (mark_at (codes "0")) end) (λ separator. numbers) tt (k ∷ ks) (codes "0" ∷ map (λ j. decimal j) (k ∷ ks)) (map (λ j. decimal j) (k ∷ ks)) []
-      (one_reads (mark_at (codes "0")) end tt (codes "0") (map (λ j. decimal j) (k ∷ ks)) (λ at. refl))
-      (subst (λ (ts : List (List ℕ)). Reads numbers (k ∷ ks) ts []) (append-nil (map (λ j. decimal j) (k ∷ ks))) (numbers_reads (k ∷ ks) each))) (w ∷ ws) e in
+    (one_reads (mark_at (codes "0")) end tt (codes "0") (map (λ j. decimal j) (k ∷ ks)) (λ at. refl))
+    (subst (λ (ts : List (List ℕ)). Reads numbers (k ∷ ks) ts []) (append-nil (map (λ j. decimal j) (k ∷ ks))) (numbers_reads (k ∷ ks) each))) (w ∷ ws) e in
     record { rest = r.rest; reads = r.reads; spelled = r.spelled }
 
 nogood_reads : (end id : ℕ) (atoms : List ℤ) (by : List ℕ) → IsAllowed (Nogood id atoms by) → Reads (nogood_line end) (Nogood id atoms by) (tail_of (Nogood id atoms by)) []

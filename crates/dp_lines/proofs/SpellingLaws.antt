@@ -117,7 +117,7 @@ says_field [] rest ts h stops later = let some = h.some in absurd (omega arith)
 says_field (b ∷ t) rest ts h stops later =
     let unblank = filled_unblank b (both (is_filled b) (list_all is_filled t) h.filled).0 in
     let long : word_len false (b ∷ (t ++ rest)) ≡ length (b ∷ t) =
-      ap (λ (c : Bool). cond c 1 (prefix_len is_filled (b ∷ (t ++ rest)))) h.plain ∙ prefix_all is_filled (b ∷ t) rest h.filled stops in
+    ap (λ (c : Bool). cond c 1 (prefix_len is_filled (b ∷ (t ++ rest)))) h.plain ∙ prefix_all is_filled (b ∷ t) rest h.filled stops in
     says_word false false b t rest ts unblank long h.plain later
 
 says_spaced : (x rest : List ℕ) (ts : List (List ℕ)) → IsField x → Breaks is_filled rest → Says false rest ts → Says false (field x ++ rest) (x ∷ ts)
@@ -211,8 +211,8 @@ says_name (b ∷ t) rest ts h stops later =
     let first = first_later b parts.0 in
     let all : list_all is_later (b ∷ t) ≡ true = rw (first, parts.1) refl in
     let long : word_len true (b ∷ (t ++ rest)) ≡ length (b ∷ t) =
-      ap (λ (c : Bool). cond c (prefix_len is_later (b ∷ (t ++ rest))) (cond (is_decimal b) (prefix_len is_decimal (b ∷ (t ++ rest))) (cond (begins_negative (b ∷ (t ++ rest))) (1 + prefix_len is_decimal (t ++ rest)) (cond (begins_comparison (b ∷ (t ++ rest))) 2 1)))) parts.0
-      ∙ prefix_all is_later (b ∷ t) rest all stops in
+    ap (λ (c : Bool). cond c (prefix_len is_later (b ∷ (t ++ rest))) (cond (is_decimal b) (prefix_len is_decimal (b ∷ (t ++ rest))) (cond (begins_negative (b ∷ (t ++ rest))) (1 + prefix_len is_decimal (t ++ rest)) (cond (begins_comparison (b ∷ (t ++ rest))) 2 1)))) parts.0
+    ∙ prefix_all is_later (b ∷ t) rest all stops in
     says_word true true b t rest ts (filled_unblank b (later_filled b first)) long (ap not (apart is_later b 93 first refl)) later
 
 says_digits : (ds rest : List ℕ) (ts : List (List ℕ)) → list_all is_decimal ds ≡ true → 0 < length ds → Breaks is_decimal rest → Says true rest ts → Says true (ds ++ rest) (ds ∷ ts)
@@ -221,9 +221,9 @@ says_digits (b ∷ t) rest ts all some stops later =
     let digit = (both (is_decimal b) (list_all is_decimal t) all).0 in
     let no_first = digit_no_first b digit in
     let long : word_len true (b ∷ (t ++ rest)) ≡ length (b ∷ t) =
-      ap (λ (c : Bool). cond c (prefix_len is_later (b ∷ (t ++ rest))) (cond (is_decimal b) (prefix_len is_decimal (b ∷ (t ++ rest))) (cond (begins_negative (b ∷ (t ++ rest))) (1 + prefix_len is_decimal (t ++ rest)) (cond (begins_comparison (b ∷ (t ++ rest))) 2 1)))) no_first
-      ∙ ap (λ (c : Bool). cond c (prefix_len is_decimal (b ∷ (t ++ rest))) (cond (begins_negative (b ∷ (t ++ rest))) (1 + prefix_len is_decimal (t ++ rest)) (cond (begins_comparison (b ∷ (t ++ rest))) 2 1))) digit
-      ∙ prefix_all is_decimal (b ∷ t) rest all stops in
+    ap (λ (c : Bool). cond c (prefix_len is_later (b ∷ (t ++ rest))) (cond (is_decimal b) (prefix_len is_decimal (b ∷ (t ++ rest))) (cond (begins_negative (b ∷ (t ++ rest))) (1 + prefix_len is_decimal (t ++ rest)) (cond (begins_comparison (b ∷ (t ++ rest))) 2 1)))) no_first
+    ∙ ap (λ (c : Bool). cond c (prefix_len is_decimal (b ∷ (t ++ rest))) (cond (begins_negative (b ∷ (t ++ rest))) (1 + prefix_len is_decimal (t ++ rest)) (cond (begins_comparison (b ∷ (t ++ rest))) 2 1))) digit
+    ∙ prefix_all is_decimal (b ∷ t) rest all stops in
     says_word true true b t rest ts (filled_unblank b (digit_filled b digit)) long (ap not (apart is_decimal b 93 digit refl)) later
 
 says_minus : (ds rest : List ℕ) (ts : List (List ℕ)) → list_all is_decimal ds ≡ true → 0 < length ds → Breaks is_decimal rest → Says true rest ts → Says true ((45 ∷ ds) ++ rest) ((45 ∷ ds) ∷ ts)
@@ -231,8 +231,8 @@ says_minus [] rest ts all some stops later = absurd (omega arith)
 says_minus (b ∷ t) rest ts all some stops later =
     let digit = (both (is_decimal b) (list_all is_decimal t) all).0 in
     let long : word_len true (45 ∷ ((b ∷ t) ++ rest)) ≡ length (45 ∷ (b ∷ t)) =
-      ap (λ (c : Bool). cond c (1 + prefix_len is_decimal ((b ∷ t) ++ rest)) (cond (begins_comparison (45 ∷ ((b ∷ t) ++ rest))) 2 1)) digit
-      ∙ ap (λ (k : ℕ). 1 + k) (prefix_all is_decimal (b ∷ t) rest all stops) ∙ omega arith in
+    ap (λ (c : Bool). cond c (1 + prefix_len is_decimal ((b ∷ t) ++ rest)) (cond (begins_comparison (45 ∷ ((b ∷ t) ++ rest))) 2 1)) digit
+    ∙ ap (λ (k : ℕ). 1 + k) (prefix_all is_decimal (b ∷ t) rest all stops) ∙ omega arith in
     says_word true true 45 (b ∷ t) rest ts refl long refl later
 
 says_value : (v : ℤ) (rest : List ℕ) (ts : List (List ℕ)) → unsigned_abs v ≤ 10 ^ 18 → Breaks is_decimal rest → Says true rest ts → Says true (signed v ++ rest) (signed v ∷ ts)
@@ -285,7 +285,7 @@ says_reason k l hk hl =
     says_option (λ j. codes "c:" ++ decimal j) IsNumber k (field_of (λ t. codes "l:" ++ t) l) (optional_text (λ t. codes "l:" ++ t) l) constraint_field hk
     (subst (λ (s : List ℕ). Breaks is_filled s) (append-nil (field_of (λ t. codes "l:" ++ t) l)) (option_breaks (λ t. codes "l:" ++ t) l [] tt))
     (says_alone (field_of (λ t. codes "l:" ++ t) l) (optional_text (λ t. codes "l:" ++ t) l) []
-      (says_option (λ t. codes "l:" ++ t) (λ t. is_label t ≡ true) l [] [] label_field hl tt (says_end false)) refl)
+    (says_option (λ t. codes "l:" ++ t) (λ t. is_label t ≡ true) l [] [] label_field hl tt (says_end false)) refl)
 
 reason_breaks : (k : Option ℕ) (l : Option (List ℕ)) → Breaks is_filled (field_of (λ j. codes "c:" ++ decimal j) k ++ field_of (λ t. codes "l:" ++ t) l)
 reason_breaks k l =
@@ -299,7 +299,7 @@ says_hints (k ∷ ks) each =
     says_spaced (codes "0") (flat_map (λ j. field (decimal j)) all) (map (λ j. decimal j) all) nought_field
     (subst (λ (s : List ℕ). Breaks is_filled s) (append-nil (flat_map (λ j. field (decimal j)) all)) (flat_breaks (λ j. decimal j) all [] tt))
     (says_alone (flat_map (λ j. field (decimal j)) all) (map (λ j. decimal j) all) []
-      (says_flat (λ j. decimal j) IsNumber all [] [] number_field each tt (says_end false)) refl)
+    (says_flat (λ j. decimal j) IsNumber all [] [] number_field each tt (says_end false)) refl)
 
 hints_break : (ks : List ℕ) → Breaks is_filled (hints_text ks)
 hints_break [] = tt
@@ -324,14 +324,14 @@ says_line (Inference id premises implied k l) h =
     subst (λ (s : List ℕ). Says false s (tag_of (Inference id premises implied k l) ∷ tail_of (Inference id premises implied k l)))
     (sym (seven_tail (codes "i") (field (decimal id)) (literals_text premises) (field (codes "0")) (field_of signed implied) c_text l_text))
     (says_id 105 id (literals_text premises ++ (field (codes "0") ++ why)) (map signed premises ++ codes "0" ∷ ts) refl refl h.0
-      (flat_breaks signed premises (field (codes "0") ++ why) refl)
-      (says_flat signed IsLiteral premises (field (codes "0") ++ why) (codes "0" ∷ ts) literal_field h.1 refl
-        (says_spaced (codes "0") why ts nought_field (option_breaks signed implied (c_text ++ l_text) (reason_breaks k l))
-          (says_option signed IsLiteral implied (c_text ++ l_text) (reason_texts k l) literal_field h.2 (reason_breaks k l) (says_reason k l h.3 h.4)))))
+    (flat_breaks signed premises (field (codes "0") ++ why) refl)
+    (says_flat signed IsLiteral premises (field (codes "0") ++ why) (codes "0" ∷ ts) literal_field h.1 refl
+    (says_spaced (codes "0") why ts nought_field (option_breaks signed implied (c_text ++ l_text) (reason_breaks k l))
+    (says_option signed IsLiteral implied (c_text ++ l_text) (reason_texts k l) literal_field h.2 (reason_breaks k l) (says_reason k l h.3 h.4)))))
 says_line (Nogood id atoms by) h =
     subst (λ (s : List ℕ). Says false s (tag_of (Nogood id atoms by) ∷ tail_of (Nogood id atoms by)))
     (sym (four (codes "n") (field (decimal id)) (literals_text atoms) (hints_text by)))
     (says_id 110 id (literals_text atoms ++ hints_text by) (map signed atoms ++ hint_texts by) refl refl h.0 (flat_breaks signed atoms (hints_text by) (hints_break by))
-      (says_flat signed IsLiteral atoms (hints_text by) (hint_texts by) literal_field h.1 (hints_break by) (says_hints by h.2)))
+    (says_flat signed IsLiteral atoms (hints_text by) (hint_texts by) literal_field h.1 (hints_break by) (says_hints by h.2)))
 says_line (Delete id) h = absurd h
 says_line (Conclude claim) h = says_claim claim h
