@@ -1,7 +1,6 @@
 -- Numbers, names and labels are read from each of their spellings, of which the canonical one is one.
-use Rattle.std.proofs.Common.{◌≡◌, ◌≢◌, ℕ, zero, suc, ◌+◌, ◌^◌, ◌<◌, ◌≤◌, Bool, true, false, cond, not, ◌&&◌, eqb, leb, List, [], ◌∷◌, ◌++◌, length, get_or, Result, Ok, Err, refl, sym, ap, subst, ◌∙◌, arith, rules, inl, inr}
-use Rattle.std.specs.Prelude.{ℤ, pos, negsuc, neg_ℤ, ◌+ℤ◌, ◌≤ℤ◌, int_le, unsigned_abs, codes}
-use Rattle.std.specs.Char.{is_digit}
+use Rattle.std.proofs.Common.{◌≡◌, ℕ, zero, suc, ◌+◌, ◌^◌, ◌<◌, ◌≤◌, Bool, true, false, not, ◌&&◌, eqb, List, [], ◌∷◌, ◌++◌, length, Result, Ok, Err, refl, sym, ap, subst, ◌∙◌, arith, rules, inl, inr}
+use Rattle.std.specs.Prelude.{ℤ, pos, negsuc, neg_ℤ, unsigned_abs, codes}
 use Rattle.std.specs.Fmt.{decimal}
 use Rattle.std.specs.List.{list_all}
 use Rattle.std.specs.Str.{bytes_eq}
@@ -18,12 +17,11 @@ use Rattle.dp_domain.specs.declared.atom.Op.{Op}
 use Rattle.dp_domain.specs.declared.atom.Op.TheVariants.{Ge, Le, Eq, Ne}
 use Rattle.dp_lines.specs.Allowed.{IsLiteral, IsNumber, is_label}
 use Rattle.dp_lines.specs.Fields.{bound_of, claim_at, ends_fields}
-use Rattle.dp_lines.specs.Figures.{are_digits, constraint_at, figure, is_nameable, is_nought, is_number, label_at, literal_at, name_at, nameable_at, number_at, op_at, signed_by, value_at}
+use Rattle.dp_lines.specs.Figures.{are_digits, constraint_at, figure, is_nameable, is_nought, is_number, label_at, literal_at, name_at, number_at, op_at, signed_by, value_at}
 use Rattle.dp_lines.specs.Lenient.{IsNumeral, IsSigned, IsValue}
 use Rattle.dp_lines.specs.Spelling.{op_text, signed}
 use Rattle.dp_lines.specs.Words.{is_decimal}
-use Rattle.dp_lines.specs.declared.line.Claim.{Claim}
-use Rattle.dp_lines.specs.declared.line.Claim.TheVariants.{Unsat, Bound}
+use Rattle.dp_lines.specs.declared.line.Claim.TheVariants.{Bound}
 use Rattle.dp_lines.specs.declared.refusal.Flaw.{Flaw}
 use Rattle.dp_lines.specs.declared.refusal.Flaw.TheVariants.{Form, Number}
 

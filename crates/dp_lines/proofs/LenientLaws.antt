@@ -1,32 +1,33 @@
 -- What is read of words is what they spell.
-use Rattle.std.proofs.Common.{◌≡◌, ℕ, zero, suc, ◌+◌, ◌^◌, ◌≤◌, ◌<◌, Bool, true, false, cond, not, ◌&&◌, ◌||◌, eqb, leb, get_or, List, [], ◌∷◌, ◌++◌, length, drop, take, ◌-◌, ◌↔◌, Option, Some, None, Result, Ok, Err, append_assoc, refl, sym, ap, subst, ◌∙◌, arith, ◌⊎◌, inl, inr}
-use Rattle.std.specs.Prelude.{ℤ, pos, negsuc, neg_ℤ, codes}
+use Rattle.std.proofs.Common.{◌≡◌, ℕ, zero, suc, ◌+◌, ◌^◌, ◌≤◌, ◌<◌, Bool, true, false, cond, not, ◌&&◌, eqb, leb, get_or, List, [], ◌∷◌, ◌++◌, length, drop, take, ◌-◌, ◌↔◌, Option, Some, None, Result, Ok, Err, append_assoc, refl, sym, ap, subst, ◌∙◌, arith, inl, inr}
+use Rattle.std.specs.Prelude.{ℤ, pos, negsuc, neg_ℤ, codes, IfSome}
 use Rattle.std.specs.Str.{bytes_eq}
 use Rattle.std.specs.Str.Parse.{digits_value}
 use Rattle.std.proofs.lemmas.Bool.{cases_Bool, eqb-true, leb-true}
 use Rattle.std.proofs.lemmas.List.{append-nil}
 use Rattle.std.proofs.lemmas.Slice.Eq.{bytes_eq-Decides}
+use Rattle.dp_base.specs.Lists.{Each}
 use Rattle.dp_base.specs.Names.{is_name}
 use Rattle.dp_domain.specs.Atoms.{IsNameable}
 use Rattle.dp_domain.specs.declared.atom.Op.{Op}
 use Rattle.dp_domain.specs.declared.atom.Op.TheVariants.{Ge, Le, Eq, Ne}
-use Rattle.dp_lines.specs.Allowed.{IsLiteral, IsNumber, is_label}
-use Rattle.dp_lines.specs.Fields.{Reading, atom_line, behind, bound_of, claim_at, conclusion_line, consequent, constraint, ended, ends_fields, hints, inference_line, label, late_constraint, line_by, line_of, literals, many, nogood_line, numbers, one, optional, reason, with_first, with_rest}
+use Rattle.dp_lines.specs.Allowed.{IsAllowed, IsLiteral, IsNumber, is_label}
+use Rattle.dp_lines.specs.Fields.{Reading, atom_line, behind, bound_of, claim_at, conclusion_line, ended, ends_fields, hints, inference_line, late_constraint, line_by, line_of, many, nogood_line, numbers, one, optional, reason, with_first, with_rest}
 use Rattle.dp_lines.specs.Figures.{are_digits, constraint_at, figure, is_constraint, is_label_field, is_nought, is_number, is_nameable, kind_at, label_at, literal_at, mark_at, name_at, nameable_at, number_at, op_at, signed_by, value_at}
 use Rattle.dp_lines.specs.Lenient.{AreHints, IsConsequent, IsNumeral, IsReason, IsSigned, IsValue, Spelled, Spells, SpellsAtom, texts}
 use Rattle.dp_lines.specs.Spelling.{op_text}
 use Rattle.dp_lines.specs.Lines.{judged_by, judged_content, judged_words}
-use Rattle.dp_lines.specs.Words.{Word, end_of, front_word, is_blank, is_inside_behind, word_len, words, words_from}
+use Rattle.dp_lines.specs.Words.{Word, end_of, is_blank, is_inside_behind, word_len, words, words_from}
 use Rattle.dp_lines.specs.declared.judge.Judged.TheVariants.{Given}
 use Rattle.dp_lines.specs.declared.fields.Kind.{Kind}
 use Rattle.dp_lines.specs.declared.fields.Kind.TheVariants.{Atom as AtomLine, Inference as InferenceLine, Nogood as NogoodLine, Conclusion as ConclusionLine}
 use Rattle.dp_lines.specs.declared.line.Line.{Line}
-use Rattle.dp_lines.specs.declared.line.Line.TheVariants.{Atom, Inference, Nogood, Conclude}
+use Rattle.dp_lines.specs.declared.line.Line.TheVariants.{Atom, Inference, Nogood, Delete, Conclude}
 use Rattle.dp_lines.specs.declared.line.Claim.{Claim}
 use Rattle.dp_lines.specs.declared.line.Claim.TheVariants.{Unsat, Bound}
 use Rattle.dp_lines.specs.declared.refusal.Flaw.{Flaw}
 use Rattle.dp_lines.specs.declared.refusal.Flaw.TheVariants.{Form, Number, NotBuilt}
-use Rattle.dp_lines.proofs.AllowedLaws.{IfGiven, nameable_found}
+use Rattle.dp_lines.proofs.AllowedLaws.{IfGiven, nameable_found, nameable_zero}
 use Rattle.dp_lines.proofs.RoundTrip.{spelled_given}
 use Rattle.dp_lines.proofs.WordLaws.{no_words, word_some, word_stepped, word_taken}
 
@@ -311,7 +312,7 @@ atom_is end ws some =
     behind_is (One (λ u t. t ≡ codes "]")) (λ y back left. IsLineOf (codes "a") y (f1 ++ (f2 ++ (f3 ++ (f4 ++ (f5 ++ back))))) left) ws _ _ (one_is (λ u t. t ≡ codes "]") (mark_at (codes "]")) end ws some (mark_is (codes "]")) tt) (λ u f6 ws h6 some.
     behind_is (λ u front rest. (front ≡ []) × (rest ≡ [])) (λ y back left. IsLineOf (codes "a") y (f1 ++ (f2 ++ (f3 ++ (f4 ++ (f5 ++ (f6 ++ back)))))) left) ws _ _ (ended_is end ws some) (λ u f7 ws h7 some.
     given_is (λ y back left. IsLineOf (codes "a") y (f1 ++ (f2 ++ (f3 ++ (f4 ++ (f5 ++ (f6 ++ (f7 ++ back))))))) left) (Atom id name op value) ws some
-      (atom_whole id name op value f1 f2 f3 f4 f5 f6 f7 h1 h2 h3 h4 h5 h6 h7.0, h7.1))))))))
+    (atom_whole id name op value f1 f2 f3 f4 f5 f6 f7 h1 h2 h3 h4 h5 h6 h7.0, h7.1))))))))
 
 told_more : {X : Type 0} (R S : X → List (List ℕ) → List Word → Type 0) (ws : List Word) (r : Reading X) → ((x : X) (front : List (List ℕ)) (rest : List Word) → R x front rest → S x front rest) → Is R ws r → Is S ws r
 told_more R S ws (Err flaw) f h = tt
@@ -321,7 +322,7 @@ hints_by : (end : ℕ) (w : Word) (ws : List Word) → AllSome (w ∷ ws) → Is
 hints_by end w ws some =
     behind_is (One (λ u t. t ≡ codes "0")) (λ ks front rest. AreHints ks front) (w ∷ ws) _ _ (one_is (λ u t. t ≡ codes "0") (mark_at (codes "0")) end (w ∷ ws) some (mark_is (codes "0")) tt) (λ u f1 rest h1 some.
     told_more (λ ks front rest. Spelled IsNumeral ks front) (λ ks back left. AreHints ks (f1 ++ back)) rest (numbers rest)
-      (λ ks back left h. inr (back, ap (λ (f : List (List ℕ)). f ++ back) (h1.1 ∙ ap (λ (t : List ℕ). t ∷ []) h1.2), h)) (many_is IsNumeral (λ text. false) number_at rest some number_is))
+    (λ ks back left h. inr (back, ap (λ (f : List (List ℕ)). f ++ back) (h1.1 ∙ ap (λ (t : List ℕ). t ∷ []) h1.2), h)) (many_is IsNumeral (λ text. false) number_at rest some number_is))
 
 hints_are : (end : ℕ) (ws : List Word) → AllSome ws → Is (λ ks front rest. AreHints ks front) ws (hints end ws)
 hints_are end [] some = record { front = []; parts = refl; told = inl (refl, refl); filled = tt }
@@ -334,7 +335,7 @@ nogood_is end ws some =
     behind_is (λ ks front rest. AreHints ks front) (λ y back left. IsLineOf (codes "n") y (f1 ++ (f2 ++ back)) left) ws _ _ (hints_are end ws some) (λ by f3 ws h3 some.
     behind_is (λ u front rest. (front ≡ []) × (rest ≡ [])) (λ y back left. IsLineOf (codes "n") y (f1 ++ (f2 ++ (f3 ++ back))) left) ws _ _ (ended_is end ws some) (λ u f4 ws h4 some.
     given_is (λ y back left. IsLineOf (codes "n") y (f1 ++ (f2 ++ (f3 ++ (f4 ++ back)))) left) (Nogood id atoms by) ws some
-      (record { number = h1.0; front = f2; back = f3; whole = rw (h1.1, h4.0, append-nil f3) refl; id_is = h1.2; atoms_are = h2; hints_are = h3 }, h4.1)))))
+    (record { number = h1.0; front = f2; back = f3; whole = rw (h1.1, h4.0, append-nil f3) refl; id_is = h1.2; atoms_are = h2; hints_are = h3 }, h4.1)))))
 
 conclusion_told : (claim : Claim) (f1 f2 : List (List ℕ)) → One (λ c t. IsClaim c t) claim f1 [] → f2 ≡ [] → Spells (Conclude claim) (codes "c" ∷ (f1 ++ (f2 ++ [])))
 conclusion_told Unsat f1 f2 h1 h2 = rw (h1.1, h1.2, h2) refl
@@ -388,8 +389,8 @@ inference_is end ws some =
     behind_is (λ o front rest. Maybe (λ l t. IsSigned l t) o front) (λ y back left. IsLineOf (codes "i") y (f1 ++ (f2 ++ (f3 ++ back))) left) ws _ _ (maybe_is (λ l t. IsSigned l t) (λ text. not (ends_fields text)) literal_at end ws some (λ at t h. literal_is at t) tt) (λ implied f4 ws h4 some.
     behind_is (λ why front rest. IsReason why.0 why.1 front) (λ y back left. IsLineOf (codes "i") y (f1 ++ (f2 ++ (f3 ++ (f4 ++ back)))) left) ws _ _ (reason_is end ws some) (λ why f5 ws h5 some.
     behind_is (λ u front rest. (front ≡ []) × (rest ≡ [])) (λ y back left. IsLineOf (codes "i") y (f1 ++ (f2 ++ (f3 ++ (f4 ++ (f5 ++ back))))) left) ws _ _ (ended_is end ws some) (λ u f6 ws h6 some.
-    given_is (λ y back left. IsLineOf (codes "i") y (f1 ++ (f2 ++ (f3 ++ (f4 ++ (f5 ++ (f6 ++ back)))))) left) (Inference id premises implied why.0 why.1) ws some
-      (record {
+    given_is (λ y back left. IsLineOf (codes "i") y (f1 ++ (f2 ++ (f3 ++ (f4 ++ (f5 ++ (f6 ++ back)))))) left) (Inference id premises implied why.0 why.1) ws some (
+      record {
         number = h1.0;
         front = f2;
         implied = f4;
@@ -399,7 +400,9 @@ inference_is end ws some =
         premises_are = h2;
         consequent_is = consequent_told implied f4 h4;
         reason_is = h5;
-      }, h6.1)))))))
+      },
+      h6.1,
+    )))))))
 
 line_by_is : (kind : Kind) (end : ℕ) (ws : List Word) → AllSome ws → Is (IsLineOf (tag kind)) ws (line_by kind end ws)
 line_by_is AtomLine end ws some = atom_is end ws some
@@ -414,7 +417,7 @@ line_of_is : (end : ℕ) (ws : List Word) → AllSome ws → Is IsLine ws (line_
 line_of_is end ws some =
     behind_is (One (λ k t. t ≡ tag k)) IsLine ws _ _ (one_is (λ k t. t ≡ tag k) kind_at end ws some kind_is tt) (λ kind f1 ws h1 some.
     told_more (IsLineOf (tag kind)) (λ y back left. IsLine y (f1 ++ back) left) ws (line_by kind end ws)
-      (λ y back left h. (subst (λ (f : List (List ℕ)). Spells y (f ++ back)) (sym (h1.1 ∙ ap (λ (t : List ℕ). t ∷ []) h1.2)) h.0, h.1)) (line_by_is kind end ws some))
+    (λ y back left h. (subst (λ (f : List (List ℕ)). Spells y (f ++ back)) (sym (h1.1 ∙ ap (λ (t : List ℕ). t ∷ []) h1.2)) h.0, h.1)) (line_by_is kind end ws some))
 
 -- ---- a line of bytes
 
@@ -455,3 +458,42 @@ given_spelled number bytes line e = words_told number (end_of bytes) (words byte
 
 pub given_is_spelled : (number : ℕ) (bytes : List ℕ) (line : Line) → (judged_content number bytes ≡ Given line) ↔ Spells line (texts (words bytes))
 given_is_spelled number bytes line = (given_spelled number bytes line, spelled_given number bytes line)
+
+-- ---- its fields are allowed
+
+value_allowed : (op : Op) (v : ℤ) (t : List ℕ) → IsValue op v t → IsNameable op v
+value_allowed op v t (inl h) = subst (λ (x : ℤ). IsNameable op x) (sym h.1) (nameable_zero op)
+value_allowed op v t (inr h) = h.1
+
+spelled_each : {A : Type 0} (R : A → List ℕ → Type 0) (P : A → Type 0) (xs : List A) (ts : List (List ℕ)) → ((x : A) (t : List ℕ) → R x t → P x) → Spelled R xs ts → Each P xs
+spelled_each R P [] [] f h = tt
+spelled_each R P [] (t ∷ ts) f h = absurd h
+spelled_each R P (x ∷ xs) [] f h = absurd h
+spelled_each R P (x ∷ xs) (t ∷ ts) f h = (f x t h.0, spelled_each R P xs ts f h.1)
+
+consequent_allowed : (o : Option ℤ) (ts : List (List ℕ)) → IsConsequent o ts → IfSome o IsLiteral
+consequent_allowed None ts h = tt
+consequent_allowed (Some l) ts h = signed_literal l h.0 h.2
+
+reason_allowed : (k : Option ℕ) (l : Option (List ℕ)) (ts : List (List ℕ)) → IsReason k l ts → IfSome k IsNumber × IfSome l (λ x. is_label x ≡ true)
+reason_allowed None None ts h = (tt, tt)
+reason_allowed (Some k) None ts h = (h.2.range, tt)
+reason_allowed None (Some l) ts h = (tt, h.1)
+reason_allowed (Some k) (Some l) ts h = (h.2.range, h.3)
+
+hints_allowed : (ks : List ℕ) (ts : List (List ℕ)) → AreHints ks ts → Each IsNumber ks
+hints_allowed ks ts (inl h) = subst (λ (js : List ℕ). Each IsNumber js) (sym h.1) tt
+hints_allowed ks ts (inr h) = spelled_each IsNumeral IsNumber ks h.0 (λ k t n. n.range) h.2
+
+spelled_allowed : (line : Line) (ts : List (List ℕ)) → Spells line ts → IsAllowed line
+spelled_allowed (Atom id name op value) ts h = (h.id_is.range, h.name_is, value_allowed op value h.amount h.value_is)
+spelled_allowed (Inference id premises implied k l) ts h =
+    let why = reason_allowed k l h.why h.reason_is in
+    (h.id_is.range, spelled_each IsSigned IsLiteral premises h.front signed_literal h.premises_are, consequent_allowed implied h.implied h.consequent_is, why.0, why.1)
+spelled_allowed (Nogood id atoms by) ts h = (h.id_is.range, spelled_each IsSigned IsLiteral atoms h.front signed_literal h.atoms_are, hints_allowed by h.back h.hints_are)
+spelled_allowed (Delete id) ts h = h
+spelled_allowed (Conclude Unsat) ts h = tt
+spelled_allowed (Conclude (Bound l)) ts h = signed_literal l h.0 h.2
+
+pub given_allowed : (number : ℕ) (bytes : List ℕ) (line : Line) → judged_content number bytes ≡ Given line → IsAllowed line
+given_allowed number bytes line e = spelled_allowed line (texts (words bytes)) (given_spelled number bytes line e)

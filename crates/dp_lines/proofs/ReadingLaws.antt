@@ -1,22 +1,18 @@
 -- A line is read from the words that spell it, wherever they stand.
-use Rattle.std.proofs.Common.{◌≡◌, ℕ, Bool, true, false, cond, not, List, [], ◌∷◌, ◌++◌, map, drop, Option, Some, None, Result, Ok, Err, refl, sym, ap, subst, ◌∙◌, ◌⊎◌, inl, inr}
-use Rattle.std.specs.Prelude.{ℤ, pos, negsuc, codes, IfSome}
-use Rattle.std.specs.Fmt.{decimal}
+use Rattle.std.proofs.Common.{◌≡◌, ℕ, Bool, true, false, not, List, [], ◌∷◌, ◌++◌, drop, Option, Some, None, Result, Ok, refl, sym, ap, subst, ◌∙◌, ◌⊎◌, inl, inr}
+use Rattle.std.specs.Prelude.{ℤ, codes}
 use Rattle.std.proofs.lemmas.List.{append-nil}
-use Rattle.dp_base.specs.Lists.{Each}
 use Rattle.dp_base.specs.Names.{is_name}
-use Rattle.dp_domain.specs.Atoms.{IsNameable}
 use Rattle.dp_domain.specs.declared.atom.Op.{Op}
-use Rattle.dp_lines.specs.Allowed.{IsAllowed, IsAllowedClaim, IsLiteral, IsNumber, is_label}
-use Rattle.dp_lines.specs.Fields.{◌>>=◌, Reading, atom_line, behind, claim_at, conclusion_line, consequent, constraint, ended, ends_fields, given, hints, inference_line, label, late_constraint, line_by, line_of, literals, many, nogood_line, numbers, one, optional, reason, with_first, with_rest}
+use Rattle.dp_lines.specs.Allowed.{is_label}
+use Rattle.dp_lines.specs.Fields.{◌>>=◌, Reading, atom_line, claim_at, consequent, constraint, ended, ends_fields, given, hints, inference_line, label, late_constraint, line_of, literals, many, nogood_line, numbers, one, optional, reason}
 use Rattle.dp_lines.specs.Figures.{constraint_at, is_constraint, is_label_field, is_nought, kind_at, label_at, literal_at, mark_at, name_at, number_at, op_at, value_at}
 use Rattle.dp_lines.specs.Lenient.{AreHints, IsConsequent, IsNumeral, IsReason, IsSigned, IsValue, Spelled, Spells, texts}
 use Rattle.dp_lines.specs.Spelling.{op_text}
-use Rattle.dp_lines.specs.Words.{Word, front_word}
+use Rattle.dp_lines.specs.Words.{Word}
 use Rattle.dp_lines.specs.declared.fields.Kind.TheVariants.{Atom as AtomLine, Inference as InferenceLine, Nogood as NogoodLine, Conclusion as ConclusionLine}
 use Rattle.dp_lines.specs.declared.line.Line.{Line}
 use Rattle.dp_lines.specs.declared.line.Line.TheVariants.{Atom, Inference, Nogood, Delete, Conclude}
-use Rattle.dp_lines.specs.declared.line.Claim.{Claim}
 use Rattle.dp_lines.specs.declared.line.Claim.TheVariants.{Unsat, Bound}
 use Rattle.dp_lines.specs.declared.refusal.Flaw.{Flaw}
 use Rattle.dp_lines.proofs.FigureLaws.{claim_reads, constraint_reads, label_reads, literal_on, literal_reads, literal_there, name_reads, number_reads, op_reads, value_reads}
@@ -211,8 +207,8 @@ some_hints : (end : ℕ) (ks : List ℕ) (us : List (List ℕ)) → Spelled IsNu
 some_hints end ks us each [] e = absurd cc
 some_hints end ks us each (w ∷ ws) e =
     let r = (then_reads (one (mark_at (codes "0")) end) (λ separator. numbers) tt ks (codes "0" ∷ us) us []
-      (one_reads (mark_at (codes "0")) end tt (codes "0") us (λ at. refl))
-      (reads_at numbers ks us (us ++ []) [] (sym (append-nil us)) (numbers_reads ks us each))) (w ∷ ws) e in
+    (one_reads (mark_at (codes "0")) end tt (codes "0") us (λ at. refl))
+    (reads_at numbers ks us (us ++ []) [] (sym (append-nil us)) (numbers_reads ks us each))) (w ∷ ws) e in
     record { rest = r.rest; reads = r.reads; spelled = r.spelled }
 
 hints_reads : (end : ℕ) (ks : List ℕ) (us : List (List ℕ)) → AreHints ks us → Reads (hints end) ks us []
@@ -232,7 +228,7 @@ line_reads end (Atom id name op value) ts h = reads_at (line_of end) (Atom id na
     (then_reads _ _ AtomLine _ _ _ _ (one_reads kind_at end AtomLine (codes "a") _ (λ at. refl)) (atom_reads end id name op value h.number h.amount h.id_is h.name_is h.value_is))
 line_reads end (Inference id premises implied k l) ts h = reads_at (line_of end) (Inference id premises implied k l) ts _ [] h.whole
     (then_reads _ _ InferenceLine _ _ _ _ (one_reads kind_at end InferenceLine (codes "i") _ (λ at. refl))
-      (inference_reads end id premises implied k l h.number h.front h.implied h.why h.id_is h.premises_are h.consequent_is h.reason_is))
+    (inference_reads end id premises implied k l h.number h.front h.implied h.why h.id_is h.premises_are h.consequent_is h.reason_is))
 line_reads end (Nogood id atoms by) ts h = reads_at (line_of end) (Nogood id atoms by) ts _ [] h.whole
     (then_reads _ _ NogoodLine _ _ _ _ (one_reads kind_at end NogoodLine (codes "n") _ (λ at. refl)) (nogood_reads end id atoms by h.number h.front h.back h.id_is h.atoms_are h.hints_are))
 line_reads end (Delete id) ts h = absurd h

@@ -1,5 +1,5 @@
 -- A line in its canonical spelling is read again, whatever follows it.
-use Rattle.std.proofs.Common.{◌≡◌, ℕ, zero, suc, ◌+◌, ◌-◌, ◌^◌, ◌<◌, ◌≤◌, Bool, true, false, cond, not, ◌&&◌, eqb, ltb, nat_lt, get_or, List, [], ◌∷◌, ◌++◌, length, length-append, Option, Some, None, Result, Ok, append_assoc, refl, sym, ap, subst, ◌∙◌, arith}
+use Rattle.std.proofs.Common.{◌≡◌, ℕ, zero, suc, ◌+◌, ◌-◌, ◌^◌, ◌<◌, ◌≤◌, Bool, true, false, cond, not, ◌&&◌, eqb, nat_lt, get_or, List, [], ◌∷◌, ◌++◌, length, length-append, Option, Some, None, append_assoc, refl, sym, ap, subst, ◌∙◌, arith}
 use Rattle.std.specs.Prelude.{ℤ, pos, negsuc, codes, unsigned_abs, IfSome}
 use Rattle.std.specs.Fmt.{decimal}
 use Rattle.std.specs.List.{flat_map, list_all, list_any}
@@ -12,10 +12,9 @@ use Rattle.dp_domain.specs.Atoms.{IsNameable}
 use Rattle.dp_domain.specs.declared.atom.Op.{Op}
 use Rattle.dp_domain.specs.declared.atom.Op.TheVariants.{Ge, Le, Eq, Ne}
 use Rattle.dp_lines.specs.Allowed.{IsAllowed, IsAllowedClaim, IsLiteral, IsNumber, is_label}
-use Rattle.dp_lines.specs.Fields.{Reading, line_of}
 use Rattle.dp_lines.specs.Kept.{has_no_feed, is_no_feed}
-use Rattle.dp_lines.specs.Lines.{Lines, judged, judged_by, judged_content, judged_words, led_by, lines_behind, with_line}
-use Rattle.dp_lines.specs.RawLines.{Raw, content, raw_lines, with_byte}
+use Rattle.dp_lines.specs.Lines.{judged, judged_by, judged_content, judged_words, led_by, lines_behind, with_line}
+use Rattle.dp_lines.specs.RawLines.{content, raw_lines, with_byte}
 use Rattle.dp_lines.specs.Lenient.{Spells, texts}
 use Rattle.dp_lines.specs.Spelling.{atom_text, field, field_of, fields_text, hints_text, line_text, literals_text, op_text, signed}
 use Rattle.dp_lines.specs.Words.{Word, end_of, is_decimal, words}
@@ -27,7 +26,7 @@ use Rattle.dp_lines.specs.declared.line.Claim.{Claim}
 use Rattle.dp_lines.specs.declared.line.Claim.TheVariants.{Unsat, Bound}
 use Rattle.dp_lines.specs.declared.refusal.Limits.{Limits}
 use Rattle.dp_lines.proofs.FigureLaws.{decimal_digits, value_size}
-use Rattle.dp_lines.proofs.ReadingLaws.{IsRead, line_reads}
+use Rattle.dp_lines.proofs.ReadingLaws.{line_reads}
 use Rattle.dp_lines.proofs.SpellingLaws.{canonical_spells, says_line}
 
 -- ---- one line

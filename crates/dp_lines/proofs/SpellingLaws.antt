@@ -1,12 +1,11 @@
 -- The words of a line in its canonical spelling are those that it is made of.
-use Rattle.std.proofs.Common.{◌≡◌, ◌≢◌, ℕ, zero, suc, ◌+◌, ◌^◌, ◌<◌, ◌≤◌, Bool, true, false, cond, not, ◌&&◌, ◌||◌, eqb, leb, get_or, List, [], ◌∷◌, ◌++◌, length, map, take, drop, Option, Some, None, append_assoc, refl, sym, ap, subst, ◌∙◌, arith, inl, inr}
+use Rattle.std.proofs.Common.{◌≡◌, ℕ, ◌+◌, ◌^◌, ◌<◌, ◌≤◌, Bool, true, false, cond, not, ◌&&◌, eqb, get_or, List, [], ◌∷◌, ◌++◌, length, map, take, drop, Option, Some, None, append_assoc, refl, sym, ap, subst, ◌∙◌, arith, inl, inr}
 use Rattle.std.specs.Prelude.{ℤ, pos, negsuc, codes, unsigned_abs, IfSome}
 use Rattle.std.specs.Fmt.{decimal}
 use Rattle.std.specs.List.{flat_map, list_all, list_any, prefix_len}
 use Rattle.std.specs.Str.{bytes_eq}
 use Rattle.std.proofs.lemmas.Bool.{ne_eqb}
 use Rattle.std.proofs.lemmas.Bool.Decides.{nat_tests}
-use Rattle.std.proofs.lemmas.Int.{ints}
 use Rattle.std.proofs.lemmas.List.{append-nil, drop_at, take_at}
 use Rattle.std.proofs.lemmas.List.Concat.{flat_map-cons}
 use Rattle.dp_base.specs.Lists.{Each}
@@ -17,13 +16,13 @@ use Rattle.dp_domain.specs.declared.atom.Op.TheVariants.{Ge, Le, Eq, Ne}
 use Rattle.dp_lines.specs.Allowed.{IsAllowed, IsAllowedClaim, IsLiteral, IsNumber, is_label}
 use Rattle.dp_lines.specs.Lenient.{AreHints, IsConsequent, IsNumeral, IsReason, IsSigned, Spelled, Spells, texts}
 use Rattle.dp_lines.specs.Spelling.{atom_text, field, field_of, fields_text, hints_text, literals_text, op_text, signed}
-use Rattle.dp_lines.specs.Words.{Word, begins_comparison, begins_negative, is_blank, is_decimal, is_inside_behind, opens, word_len, words_from}
+use Rattle.dp_lines.specs.Words.{begins_comparison, begins_negative, is_blank, is_decimal, is_inside_behind, opens, word_len, words_from}
 use Rattle.dp_lines.specs.declared.line.Line.{Line}
 use Rattle.dp_lines.specs.declared.line.Line.TheVariants.{Atom, Inference, Nogood, Delete, Conclude}
 use Rattle.dp_lines.specs.declared.line.Claim.{Claim}
 use Rattle.dp_lines.specs.declared.line.Claim.TheVariants.{Unsat, Bound}
 use Rattle.dp_lines.proofs.FigureLaws.{decimal_digits, decimal_some, numeral_is, signed_is, value_is, value_size}
-use Rattle.dp_lines.proofs.WordLaws.{led, no_words, word_front, word_stepped}
+use Rattle.dp_lines.proofs.WordLaws.{no_words, word_front, word_stepped}
 
 -- ---- the words of a line in its canonical spelling
 

@@ -4,12 +4,10 @@ use Rattle.std.proofs.lemmas.Bool.{cases_Bool}
 use Rattle.std.proofs.lemmas.List.{drop-drop}
 use Rattle.dp_lines.specs.Allowed.{IsAllowed}
 use Rattle.dp_lines.specs.Kept.{begins_whole}
-use Rattle.dp_lines.specs.Fields.{Reading, line_of}
-use Rattle.dp_lines.specs.Lines.{Lines, judged, judged_by, judged_content, judged_words, led_by, lines_behind, refused, with_line}
+use Rattle.dp_lines.specs.Lines.{Lines, judged, judged_content, led_by, lines_behind, refused, with_line}
 use Rattle.dp_lines.specs.RawLines.{Raw, content, raw_lines, size}
 use Rattle.dp_lines.specs.Readers.{State, after, after_step, answer_by, answer_of, decided, fed, left, left_unless, nothing_at, step_from, step_of, step_unless}
 use Rattle.dp_lines.specs.Standing.{CanCome, Told}
-use Rattle.dp_lines.specs.Words.{Word, end_of, words}
 use Rattle.dp_lines.specs.declared.judge.Judged.{Judged}
 use Rattle.dp_lines.specs.declared.judge.Judged.TheVariants.{Blank, Given, Refused}
 use Rattle.dp_lines.specs.declared.refusal.Limits.{Limits}
@@ -22,7 +20,7 @@ use Rattle.dp_lines.specs.Answers.{IfMemory, UnlessMemory}
 use Rattle.dp_lines.specs.declared.line.Line.{Line}
 use Rattle.dp_lines.specs.declared.refusal.LineFault.{LineFault}
 use Rattle.dp_lines.specs.declared.refusal.LineFault.TheVariants.{Refused as RefusedFault, Memory}
-use Rattle.dp_lines.proofs.AllowedLaws.{IfRead, line_allowed}
+use Rattle.dp_lines.proofs.LenientLaws.{given_allowed}
 use Rattle.dp_lines.proofs.RawLaws.{cut_is}
 
 -- what comes first, and the lines behind it
@@ -166,13 +164,10 @@ IfGivenLine Blank = Unit {0}
 IfGivenLine (Given line) = IsAllowed line
 IfGivenLine (Refused refusal) = Unit {0}
 
-read_allowed : (number : ℕ) (r : Reading Line) → IfRead IsAllowed r → IfGivenLine (judged_by number r)
-read_allowed number (Ok p) h = h
-read_allowed number (Err flaw) h = tt
-
-words_allowed : (number end : ℕ) (ws : List Word) → IfGivenLine (judged_words number end ws)
-words_allowed number end [] = tt
-words_allowed number end (w ∷ ws) = read_allowed number (line_of end (w ∷ ws)) (line_allowed end (w ∷ ws))
+content_allowed : (number : ℕ) (bytes : List ℕ) (j : Judged) → judged_content number bytes ≡ j → IfGivenLine j
+content_allowed number bytes Blank e = tt
+content_allowed number bytes (Given line) e = given_allowed number bytes line e
+content_allowed number bytes (Refused refusal) e = tt
 
 picked_allowed : (a b : Bool) (x y : LineRefusal) (j : Judged) → IfGivenLine j → IfGivenLine (cond a (Refused x) (cond b (Refused y) j))
 picked_allowed true b x y j h = tt
@@ -182,7 +177,7 @@ picked_allowed false false x y j h = h
 judged_allowed : (limits : Limits) (number passed : ℕ) (raw : Raw) → IfGivenLine (judged limits number passed raw)
 judged_allowed limits number passed raw =
     picked_allowed (nat_lt limits.total (passed + size raw)) (nat_lt limits.line (length raw.bytes)) (LogTooLong number) (TooLong number) (judged_content number (content raw.bytes))
-    (words_allowed number (end_of (content raw.bytes)) (words (content raw.bytes)))
+    (content_allowed number (content raw.bytes) (judged_content number (content raw.bytes)) refl)
 
 decided_allowed : (j : Judged) (count used more : ℕ) (next : Step) → IfGivenLine j → IfLine next.first → IfLine (decided j count used more next).first
 decided_allowed Blank count used more next hj hn = hn

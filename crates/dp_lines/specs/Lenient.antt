@@ -1,5 +1,5 @@
 -- Which line words spell, in any of its spellings.
-use Rattle.std.specs.Prelude.{◌≡◌, ℕ, ◌+◌, Bool, true, ◌⊎◌, Option, Some, None, List, [], ◌∷◌, ◌++◌, ℤ, pos, negsuc, codes}
+use Rattle.std.specs.Prelude.{◌≡◌, ℕ, ◌+◌, true, ◌⊎◌, Option, Some, None, List, [], ◌∷◌, ◌++◌, ℤ, pos, negsuc, codes}
 use Rattle.std.specs.Str.Parse.{digits_value}
 use Rattle.dp_base.specs.Names.{is_name}
 use Rattle.dp_domain.specs.Atoms.{IsNameable}

@@ -4,7 +4,7 @@
 mod fields;
 mod figures;
 mod judge;
-pub mod laws;
+mod laws;
 mod line;
 mod lists;
 mod reader;
@@ -14,6 +14,7 @@ mod step;
 mod tests;
 mod words;
 
+pub use laws::{any_pieces, every_spelling, nothing_left, round_trip};
 pub use line::{Claim, Line};
 pub use lists::{Literals, Numbers};
 pub use reader::Reader;
