@@ -1,6 +1,7 @@
 pub mod Allowed
 pub mod Answers
 pub mod Fields
+pub mod FirstFlaw
 pub mod Figures
 pub mod Kept
 pub mod Lenient

@@ -7,9 +7,11 @@ ghost use Rattle.dp_lines.specs.Lines.{judged_content, lines, lines_behind, no_l
 ghost use Rattle.dp_lines.specs.Readers.{State, after, answer_of, fresh, left};
 ghost use Rattle.dp_lines.specs.Runs.{Call, IsInOrder, fed_by, run, with_all};
 ghost use Rattle.dp_lines.specs.Lenient.{Spells, texts};
-ghost use Rattle.dp_lines.specs.Words.{words};
+ghost use Rattle.dp_lines.specs.Words.{end_of, words};
+ghost use Rattle.dp_lines.specs.FirstFlaw.{IsFirstRefusal};
+ghost use Rattle.dp_lines.specs.declared.refusal.LineRefusal.{LineRefusal};
 ghost use Rattle.dp_lines.specs.Spelling.{fields_text, line_text};
-ghost use Rattle.dp_lines.specs.declared.judge.Judged.TheVariants.{Given};
+ghost use Rattle.dp_lines.specs.declared.judge.Judged.TheVariants.{Given, Refused};
 ghost use Rattle.dp_lines.specs.declared.line.Line.{Line};
 ghost use Rattle.dp_lines.specs.declared.refusal.Limits.{Limits};
 
@@ -45,4 +47,12 @@ pub fn round_trip()
 #[tactic(auto, using(crate::proofs::LenientLaws::given_is_spelled))]
 pub fn every_spelling()
     ensures { (number : ℕ) (bytes : List ℕ) (line : Line) → (judged_content number bytes ≡ Given line) ↔ Spells line (texts (words bytes)) }
+{}
+
+/// A line whose limits hold is refused for the first flaw of its words: those before it begin a line, and with it no words
+/// spell one.
+#[tactic(auto, using(crate::proofs::FlawLaws::refused_first))]
+pub fn first_flaw()
+    ensures { (number : ℕ) (bytes : List ℕ) (refusal : LineRefusal) → judged_content number bytes ≡ Refused refusal →
+        IsFirstRefusal number (end_of bytes) (words bytes) refusal }
 {}

@@ -14,7 +14,7 @@ mod step;
 mod tests;
 mod words;
 
-pub use laws::{any_pieces, every_spelling, nothing_left, round_trip};
+pub use laws::{any_pieces, every_spelling, first_flaw, nothing_left, round_trip};
 pub use line::{Claim, Line};
 pub use lists::{Literals, Numbers};
 pub use reader::Reader;
