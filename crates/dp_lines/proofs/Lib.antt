@@ -1,0 +1,12 @@
+pub mod AllowedLaws
+pub mod FigureLaws
+pub mod FlawLaws
+pub mod LenientLaws
+pub mod ManyLaws
+pub mod RawLaws
+pub mod ReadingLaws
+pub mod RoundTrip
+pub mod RunLaws
+pub mod SpellingLaws
+pub mod StepLaws
+pub mod WordLaws
