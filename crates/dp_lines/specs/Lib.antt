@@ -4,6 +4,7 @@ pub mod Fields
 pub mod Figures
 pub mod Kept
 pub mod Lines
+pub mod Logs
 pub mod Parts
 pub mod RawLines
 pub mod Readers

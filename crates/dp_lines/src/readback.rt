@@ -1,0 +1,41 @@
+// The laws of reading canonical lines back, over the definitions alone.
+
+ghost use Rattle.std.specs.Prelude.{◌≡◌, ◌+◌, ◌≤◌, ◌++◌, ℕ, false, List, [], length, None, Some, Ok};
+ghost use Rattle.std.specs.List.{enumerate_from};
+ghost use Rattle.dp_base.specs.Lists.{Each};
+ghost use Rattle.dp_lines.specs.RawLines.{raw_lines};
+ghost use Rattle.dp_lines.specs.Lines.{lines, lines_behind, no_lines};
+ghost use Rattle.dp_lines.specs.Logs.{Holds, IsNext, all_of, behind_line, log_text};
+ghost use Rattle.dp_lines.specs.Readers.{State, after, answer_of, fed, fresh, left};
+ghost use Rattle.dp_lines.specs.Runs.{Call, IsInOrder, fed_by, run, with_all};
+ghost use Rattle.dp_lines.specs.Spelling.{line_text};
+ghost use Rattle.dp_lines.specs.declared.line.Line.{Line};
+ghost use Rattle.dp_lines.specs.declared.refusal.Limits.{Limits};
+
+/// A reader whose limits hold a line, and which holds the line's canonical spelling or is fed it, answers that line with the
+/// next number, whatever stands behind it. Then just the bytes behind it are left.
+#[tactic(auto, using(crate::proofs::ReadBack::next_line, crate::proofs::ReadBack::next_state, crate::proofs::ReadBack::fed_line))]
+pub fn line_read_back()
+    ensures held { (s : State) (line : Line) (rest : List ℕ) → IsNext s line rest → answer_of s ≡ Ok (Some (s.count + 1, line)) }
+    ensures passed { (s : State) (line : Line) (rest : List ℕ) → IsNext s line rest → after s ≡ behind_line s line rest }
+    ensures fed { (s : State) (line : Line) (rest : List ℕ) → s.held ≡ [] → s.refusal ≡ None →
+        Holds s.limits line → s.passed + length (line_text line) ≤ s.limits.total →
+        answer_of (fed s (line_text line ++ rest)) ≡ Ok (Some (s.count + 1, line)) }
+{}
+
+/// A canonical log that the limits hold is read back as its lines, with their numbers from 1: before whatever stands behind it,
+/// as a whole text, and by a reader that is fed it in any pieces.
+#[tactic(auto, using(crate::proofs::ReadBack::log_front, crate::proofs::ReadBack::log_whole, crate::proofs::ReadBack::log_told, crate::proofs::ReadBack::log_given))]
+pub fn log_read_back()
+    ensures front { (limits : Limits) (log : List Line) (rest : List ℕ) → Each (Holds limits) log → length (log_text log) ≤ limits.total →
+        lines limits (log_text log ++ rest)
+        ≡ with_all (enumerate_from 1 log) (lines_behind limits (length log) (length (log_text log)) (raw_lines rest)) }
+    ensures whole { (limits : Limits) (log : List Line) → Each (Holds limits) log → length (log_text log) ≤ limits.total →
+        lines limits (log_text log) ≡ all_of log }
+    ensures pieces { (calls : List Call) (limits : Limits) (log : List Line) → IsInOrder false calls → fed_by calls ≡ log_text log →
+        Each (Holds limits) log → length (log_text log) ≤ limits.total →
+        with_all (run calls (fresh limits)).given (left (run calls (fresh limits)).state) ≡ all_of log }
+    ensures given { (calls : List Call) (limits : Limits) (log : List Line) → IsInOrder false calls → fed_by calls ≡ log_text log →
+        Each (Holds limits) log → length (log_text log) ≤ limits.total →
+        left (run calls (fresh limits)).state ≡ no_lines → (run calls (fresh limits)).given ≡ enumerate_from 1 log }
+{}
