@@ -2,7 +2,7 @@ pub mod AllowedLaws
 pub mod FigureLaws
 pub mod ManyLaws
 pub mod RawLaws
-pub mod ReadBack
+pub mod ReadBackLaws
 pub mod ReadingLaws
 pub mod RoundTrip
 pub mod RunLaws

@@ -14,7 +14,7 @@ ghost use Rattle.dp_lines.specs.declared.refusal.Limits.{Limits};
 
 /// A reader whose limits hold a line, and which holds the line's canonical spelling or is fed it, answers that line with the
 /// next number, whatever stands behind it. Then just the bytes behind it are left.
-#[tactic(auto, using(crate::proofs::ReadBack::next_line, crate::proofs::ReadBack::next_state, crate::proofs::ReadBack::fed_line))]
+#[tactic(auto, using(crate::proofs::ReadBackLaws::next_line, crate::proofs::ReadBackLaws::next_state, crate::proofs::ReadBackLaws::fed_line))]
 pub fn line_read_back()
     ensures held { (s : State) (line : Line) (rest : List ℕ) → IsNext s line rest → answer_of s ≡ Ok (Some (s.count + 1, line)) }
     ensures passed { (s : State) (line : Line) (rest : List ℕ) → IsNext s line rest → after s ≡ behind_line s line rest }
@@ -25,7 +25,7 @@ pub fn line_read_back()
 
 /// A canonical log that the limits hold is read back as its lines, with their numbers from 1: before whatever stands behind it,
 /// as a whole text, and by a reader that is fed it in any pieces.
-#[tactic(auto, using(crate::proofs::ReadBack::log_front, crate::proofs::ReadBack::log_whole, crate::proofs::ReadBack::log_told, crate::proofs::ReadBack::log_given))]
+#[tactic(auto, using(crate::proofs::ReadBackLaws::log_front, crate::proofs::ReadBackLaws::log_whole, crate::proofs::ReadBackLaws::log_told, crate::proofs::ReadBackLaws::log_given))]
 pub fn log_read_back()
     ensures front { (limits : Limits) (log : List Line) (rest : List ℕ) → Each (Holds limits) log → length (log_text log) ≤ limits.total →
         lines limits (log_text log ++ rest)
