@@ -5,10 +5,10 @@ use Rattle.std.proofs.lemmas.List.{append-nil, drop_at}
 use Rattle.std.proofs.lemmas.List.Concat.{flat_map-cons}
 use Rattle.dp_base.specs.Lists.{Each}
 use Rattle.dp_lines.specs.Lines.{Lines, judged, lines, lines_behind, no_lines, with_line}
-use Rattle.dp_lines.specs.Logs.{Holds, IsNext, all_of, behind_line, log_text}
+use Rattle.dp_lines.specs.Logs.{AreNext, Holds, IsNext, all_of, asked_for, behind_line, behind_log, log_text}
 use Rattle.dp_lines.specs.RawLines.{Raw, raw_lines, size}
 use Rattle.dp_lines.specs.Readers.{State, after, after_step, answer_by, answer_of, decided, fed, fresh, left, step_from, step_of, step_unless}
-use Rattle.dp_lines.specs.Runs.{Call, IsInOrder, fed_by, run, with_all}
+use Rattle.dp_lines.specs.Runs.{Call, IsInOrder, Run, fed_by, run, with_all, with_first}
 use Rattle.dp_lines.specs.Spelling.{fields_text, line_text}
 use Rattle.dp_lines.specs.declared.judge.Judged.{Judged}
 use Rattle.dp_lines.specs.declared.line.Line.{Line}
@@ -64,7 +64,44 @@ fed_line s line rest empty unrefused fits within =
     next_line (fed s (line_text line ++ rest)) line rest
     (record { begins = ap (λ (t : List ℕ). t ++ (line_text line ++ rest)) empty; unrefused = unrefused; fits = fits; within = within })
 
--- ---- a log
+-- ---- a log by a reader, line by line
+
+-- the run that gives these lines
+abbrev given_run : State → List Line → List ℕ → Run
+given_run s log rest = record { given = enumerate_from (s.count + 1) log; state = behind_log s log rest }
+
+pub log_asked : (s : State) (log : List Line) (rest : List ℕ) → AreNext s log rest → run (asked_for log) s ≡ given_run s log rest
+log_asked s [] rest h =
+    let c : s.count ≡ s.count + 0 = omega arith in
+    let p : s.passed ≡ s.passed + 0 = omega arith in
+    ap (λ (t : List ℕ). record { given = []; state = record s { held = t } }) h.begins
+    ∙ ap (λ (n : ℕ). record { given = []; state = record s { count = n; held = rest } }) c
+    ∙ ap (λ (n : ℕ). record { given = []; state = record s { count = s.count + 0; passed = n; held = rest } }) p
+log_asked s (line ∷ log) rest h =
+    let joined : log_text (line ∷ log) ≡ line_text line ++ log_text log = flat_map-cons line_text line log in
+    let z : length (log_text (line ∷ log)) ≡ length (line_text line) + length (log_text log) = ap (λ (t : List ℕ). length t) joined ∙ length-append (line_text line) (log_text log) in
+    let w = h.within in
+    let here : s.passed + length (line_text line) ≤ s.limits.total = omega (arith, z, w) in
+    let later : s.passed + length (line_text line) + length (log_text log) ≤ s.limits.total = omega (arith, z, w) in
+    let more : List ℕ = log_text log ++ rest in
+    let next : IsNext s line more = record {
+      begins = h.begins ∙ ap (λ (t : List ℕ). t ++ rest) joined ∙ append_assoc (line_text line) (log_text log) rest;
+      unrefused = h.unrefused;
+      fits = h.fits.0;
+      within = here;
+    } in
+    let s1 : State = behind_line s line more in
+    let rest_run : run (asked_for log) s1 ≡ given_run s1 log rest =
+      log_asked s1 log rest (record { begins = refl; unrefused = h.unrefused; fits = h.fits.1; within = later }) in
+    let c : s.count + 1 + length log ≡ s.count + suc (length log) = omega arith in
+    let p : s.passed + length (line_text line) + length (log_text log) ≡ s.passed + length (log_text (line ∷ log)) = omega (arith, z) in
+    ap (λ (step : Step). with_first step.first step.count (run (asked_for log) (after s))) (next_step s line more next)
+    ∙ ap (λ (t : State). with_first (LineFirst line) (s.count + 1) (run (asked_for log) t)) (next_state s line more next)
+    ∙ ap (λ (r : Run). with_first (LineFirst line) (s.count + 1) r) rest_run
+    ∙ ap (λ (n : ℕ). record { given = enumerate_from (s.count + 1) (line ∷ log); state = record s { count = n; passed = s.passed + length (line_text line) + length (log_text log); held = rest } }) c
+    ∙ ap (λ (n : ℕ). record { given = enumerate_from (s.count + 1) (line ∷ log); state = record s { count = s.count + suc (length log); passed = n; held = rest } }) p
+
+-- ---- a log as a text
 
 log_behind : (limits : Limits) (count passed : ℕ) (log : List Line) (rest : List ℕ) → Each (Holds limits) log → passed + length (log_text log) ≤ limits.total →
     lines_behind limits count passed (raw_lines (log_text log ++ rest))

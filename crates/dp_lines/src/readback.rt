@@ -5,7 +5,7 @@ ghost use Rattle.std.specs.List.{enumerate_from};
 ghost use Rattle.dp_base.specs.Lists.{Each};
 ghost use Rattle.dp_lines.specs.RawLines.{raw_lines};
 ghost use Rattle.dp_lines.specs.Lines.{lines, lines_behind, no_lines};
-ghost use Rattle.dp_lines.specs.Logs.{Holds, IsNext, all_of, behind_line, log_text};
+ghost use Rattle.dp_lines.specs.Logs.{AreNext, Holds, IsNext, all_of, asked_for, behind_line, behind_log, log_text};
 ghost use Rattle.dp_lines.specs.Readers.{State, after, answer_of, fed, fresh, left};
 ghost use Rattle.dp_lines.specs.Runs.{Call, IsInOrder, fed_by, run, with_all};
 ghost use Rattle.dp_lines.specs.Spelling.{line_text};
@@ -21,6 +21,14 @@ pub fn line_read_back()
     ensures fed { (s : State) (line : Line) (rest : List ℕ) → s.held ≡ [] → s.refusal ≡ None →
         Holds s.limits line → s.passed + length (line_text line) ≤ s.limits.total →
         answer_of (fed s (line_text line ++ rest)) ≡ Ok (Some (s.count + 1, line)) }
+{}
+
+/// A reader that holds a canonical log is asked for each of its lines: it gives just these, and then just the bytes behind them
+/// are left.
+#[tactic(auto, using(crate::proofs::ReadBackLaws::log_asked))]
+pub fn lines_read_back()
+    ensures { (s : State) (log : List Line) (rest : List ℕ) → AreNext s log rest →
+        run (asked_for log) s ≡ record { given = enumerate_from (s.count + 1) log; state = behind_log s log rest } }
 {}
 
 /// A canonical log that the limits hold is read back as its lines, with their numbers from 1: before whatever stands behind it,
