@@ -1,18 +1,17 @@
 -- A canonical log is read back: by a reader line by line, and as a whole.
-use Rattle.std.proofs.Common.{◌≡◌, ℕ, suc, ◌+◌, ◌≤◌, Bool, true, false, List, [], ◌∷◌, ◌++◌, length, length-append, drop, append_assoc, Option, Some, None, Result, Ok, refl, sym, ap, ◌∙◌, arith}
-use Rattle.std.specs.List.{enumerate_from, flat_map}
+use Rattle.std.proofs.Common.{◌≡◌, ℕ, suc, ◌+◌, ◌≤◌, Bool, true, false, List, [], ◌∷◌, ◌++◌, length, length-append, drop, append_assoc, Option, Some, None, Ok, refl, sym, ap, ◌∙◌, arith}
+use Rattle.std.specs.List.{enumerate_from}
 use Rattle.std.proofs.lemmas.List.{append-nil, drop_at}
 use Rattle.std.proofs.lemmas.List.Concat.{flat_map-cons}
 use Rattle.dp_base.specs.Lists.{Each}
-use Rattle.dp_lines.specs.Lines.{Lines, judged, lines, lines_behind, no_lines, with_line}
+use Rattle.dp_lines.specs.Lines.{Lines, lines, lines_behind, no_lines, with_line}
 use Rattle.dp_lines.specs.Logs.{AreNext, Holds, IsNext, all_of, asked_for, behind_line, behind_log, log_text}
-use Rattle.dp_lines.specs.RawLines.{Raw, raw_lines, size}
+use Rattle.dp_lines.specs.RawLines.{Raw, raw_lines}
 use Rattle.dp_lines.specs.Readers.{State, after, after_step, answer_by, answer_of, decided, fed, fresh, left, step_from, step_of, step_unless}
 use Rattle.dp_lines.specs.Runs.{Call, IsInOrder, Run, fed_by, run, with_all, with_first}
 use Rattle.dp_lines.specs.Spelling.{fields_text, line_text}
 use Rattle.dp_lines.specs.declared.judge.Judged.{Judged}
 use Rattle.dp_lines.specs.declared.line.Line.{Line}
-use Rattle.dp_lines.specs.declared.refusal.LineFault.{LineFault}
 use Rattle.dp_lines.specs.declared.refusal.LineRefusal.{LineRefusal}
 use Rattle.dp_lines.specs.declared.refusal.Limits.{Limits}
 use Rattle.dp_lines.specs.declared.step.First.TheVariants.{Line as LineFirst}
@@ -92,7 +91,7 @@ log_asked s (line ∷ log) rest h =
     } in
     let s1 : State = behind_line s line more in
     let rest_run : run (asked_for log) s1 ≡ given_run s1 log rest =
-      log_asked s1 log rest (record { begins = refl; unrefused = h.unrefused; fits = h.fits.1; within = later }) in
+    log_asked s1 log rest (record { begins = refl; unrefused = h.unrefused; fits = h.fits.1; within = later }) in
     let c : s.count + 1 + length log ≡ s.count + suc (length log) = omega arith in
     let p : s.passed + length (line_text line) + length (log_text log) ≡ s.passed + length (log_text (line ∷ log)) = omega (arith, z) in
     ap (λ (step : Step). with_first step.first step.count (run (asked_for log) (after s))) (next_step s line more next)
