@@ -105,7 +105,7 @@ name_by false at text e = tt
 name_allowed : (at : ℕ) (text : List ℕ) → IfGiven (λ n. is_name n ≡ true) (name_at at text)
 name_allowed at text = name_by (is_name text) at text refl
 
-nameable_found : (op : Op) (v : ℤ) → IsLiteral v → is_nameable op v ≡ true → IsNameable op v
+pub nameable_found : (op : Op) (v : ℤ) → IsLiteral v → is_nameable op v ≡ true → IsNameable op v
 nameable_found Ge v lit h = let large = literal_size v lit in let over = lt-from_test v (neg_ℤ largest) (not-true (int_le v (neg_ℤ largest)) h) in (omega (arith, ints, over), large.1)
 nameable_found Le v lit h = let large = literal_size v lit in let under = lt-from_test largest v (not-true (int_le largest v) h) in (large.0, omega (arith, ints, under))
 nameable_found Eq v lit h = literal_size v lit

@@ -1,5 +1,6 @@
 pub mod AllowedLaws
 pub mod FigureLaws
+pub mod LenientLaws
 pub mod ManyLaws
 pub mod RawLaws
 pub mod ReadBackLaws

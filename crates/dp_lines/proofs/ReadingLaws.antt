@@ -1,5 +1,5 @@
--- A line is read again from the words that spell it, wherever they stand.
-use Rattle.std.proofs.Common.{◌≡◌, ℕ, Bool, true, false, cond, not, List, [], ◌∷◌, ◌++◌, map, drop, Option, Some, None, Result, Ok, Err, refl, sym, ap, subst, ◌∙◌}
+-- A line is read from the words that spell it, wherever they stand.
+use Rattle.std.proofs.Common.{◌≡◌, ℕ, Bool, true, false, cond, not, List, [], ◌∷◌, ◌++◌, map, drop, Option, Some, None, Result, Ok, Err, refl, sym, ap, subst, ◌∙◌, ◌⊎◌, inl, inr}
 use Rattle.std.specs.Prelude.{ℤ, pos, negsuc, codes, IfSome}
 use Rattle.std.specs.Fmt.{decimal}
 use Rattle.std.proofs.lemmas.List.{append-nil}
@@ -10,7 +10,8 @@ use Rattle.dp_domain.specs.declared.atom.Op.{Op}
 use Rattle.dp_lines.specs.Allowed.{IsAllowed, IsAllowedClaim, IsLiteral, IsNumber, is_label}
 use Rattle.dp_lines.specs.Fields.{◌>>=◌, Reading, atom_line, behind, claim_at, conclusion_line, consequent, constraint, ended, ends_fields, given, hints, inference_line, label, late_constraint, line_by, line_of, literals, many, nogood_line, numbers, one, optional, reason, with_first, with_rest}
 use Rattle.dp_lines.specs.Figures.{constraint_at, is_constraint, is_label_field, is_nought, kind_at, label_at, literal_at, mark_at, name_at, number_at, op_at, value_at}
-use Rattle.dp_lines.specs.Spelling.{op_text, signed}
+use Rattle.dp_lines.specs.Lenient.{AreHints, IsConsequent, IsNumeral, IsReason, IsSigned, IsValue, Spelled, Spells, texts}
+use Rattle.dp_lines.specs.Spelling.{op_text}
 use Rattle.dp_lines.specs.Words.{Word, front_word}
 use Rattle.dp_lines.specs.declared.fields.Kind.TheVariants.{Atom as AtomLine, Inference as InferenceLine, Nogood as NogoodLine, Conclusion as ConclusionLine}
 use Rattle.dp_lines.specs.declared.line.Line.{Line}
@@ -18,12 +19,7 @@ use Rattle.dp_lines.specs.declared.line.Line.TheVariants.{Atom, Inference, Nogoo
 use Rattle.dp_lines.specs.declared.line.Claim.{Claim}
 use Rattle.dp_lines.specs.declared.line.Claim.TheVariants.{Unsat, Bound}
 use Rattle.dp_lines.specs.declared.refusal.Flaw.{Flaw}
-use Rattle.dp_lines.proofs.FigureLaws.{constraint_again, label_again, literal_again, literal_on, literal_there, literal_word, name_again, number_again, op_again, value_again}
-
--- the bytes of words
-abbrev pub texts : List Word → List (List ℕ)
-texts [] = []
-texts (w ∷ ws) = w.text ∷ texts ws
+use Rattle.dp_lines.proofs.FigureLaws.{claim_reads, constraint_reads, label_reads, literal_on, literal_reads, literal_there, name_reads, number_reads, op_reads, value_reads}
 
 -- what is read of these words, and the bytes of the words behind it
 pub record IsRead {X : Type 0} (read : List Word → Reading X) (ws : List Word) (x : X) (left : List (List ℕ)) : Type 0 where
@@ -67,23 +63,25 @@ abbrev Stops : (List ℕ → Bool) → List (List ℕ) → Type 0
 Stops stops [] = Unit {0}
 Stops stops (t ∷ ts) = stops t ≡ true
 
-many_reads : {X : Type 0} (stops : List ℕ → Bool) (read : ℕ → List ℕ → Result X Flaw) (text : X → List ℕ) (P : X → Type 0) (xs : List X) (ts : List (List ℕ)) →
-    ((x : X) → P x → stops (text x) ≡ false) → ((x : X) (at : ℕ) → P x → read at (text x) ≡ Ok x) → Each P xs → Stops stops ts →
-    Reads (many stops read) xs (map text xs ++ ts) ts
-many_reads stops read text P [] [] goes found each stop [] e = record { rest = []; reads = refl; spelled = refl }
-many_reads stops read text P [] [] goes found each stop (w ∷ ws) e = absurd cc
-many_reads stops read text P [] (t ∷ ts) goes found each stop [] e = absurd cc
-many_reads stops read text P [] (t ∷ ts) goes found each stop (w ∷ ws) e =
+many_reads : {X : Type 0} (stops : List ℕ → Bool) (read : ℕ → List ℕ → Result X Flaw) (R : X → List ℕ → Type 0) (xs : List X) (us ts : List (List ℕ)) →
+    ((x : X) (t : List ℕ) → R x t → stops t ≡ false) → ((x : X) (at : ℕ) (t : List ℕ) → R x t → read at t ≡ Ok x) → Spelled R xs us → Stops stops ts →
+    Reads (many stops read) xs (us ++ ts) ts
+many_reads stops read R [] [] [] goes found each stop [] e = record { rest = []; reads = refl; spelled = refl }
+many_reads stops read R [] [] [] goes found each stop (w ∷ ws) e = absurd cc
+many_reads stops read R [] [] (t ∷ ts) goes found each stop [] e = absurd cc
+many_reads stops read R [] [] (t ∷ ts) goes found each stop (w ∷ ws) e =
     let same : w.text ≡ t = ap (λ (xs : List (List ℕ)). head_text xs) e in
     let here : stops w.text ≡ true = ap stops same ∙ stop in
     record { rest = w ∷ ws; reads = rw here refl; spelled = e }
-many_reads stops read text P (x ∷ xs) ts goes found each stop [] e = absurd cc
-many_reads stops read text P (x ∷ xs) ts goes found each stop (w ∷ ws) e =
-    let same : w.text ≡ text x = ap (λ (ys : List (List ℕ)). head_text ys) e in
-    let rest : texts ws ≡ map text xs ++ ts = ap (λ (ys : List (List ℕ)). drop 1 ys) e in
-    let on : stops w.text ≡ false = ap stops same ∙ goes x each.0 in
-    let value : read w.at w.text ≡ Ok x = ap (read w.at) same ∙ found x w.at each.0 in
-    let later = many_reads stops read text P xs ts goes found each.1 stop ws rest in
+many_reads stops read R [] (u ∷ us) ts goes found each stop ws e = absurd each
+many_reads stops read R (x ∷ xs) [] ts goes found each stop ws e = absurd each
+many_reads stops read R (x ∷ xs) (u ∷ us) ts goes found each stop [] e = absurd cc
+many_reads stops read R (x ∷ xs) (u ∷ us) ts goes found each stop (w ∷ ws) e =
+    let same : w.text ≡ u = ap (λ (ys : List (List ℕ)). head_text ys) e in
+    let rest : texts ws ≡ us ++ ts = ap (λ (ys : List (List ℕ)). drop 1 ys) e in
+    let on : stops w.text ≡ false = ap stops same ∙ goes x u each.0 in
+    let value : read w.at w.text ≡ Ok x = ap (read w.at) same ∙ found x w.at u each.0 in
+    let later = many_reads stops read R xs us ts goes found each.1 stop ws rest in
     record { rest = later.rest; reads = rw (on, value, later.reads) refl; spelled = later.spelled }
 
 -- the thing is there
@@ -110,132 +108,139 @@ absent_reads is read end (t ∷ ts) lacks (w ∷ ws) e =
     let off : is w.text ≡ false = ap is same ∙ lacks in
     record { rest = w ∷ ws; reads = rw off refl; spelled = e }
 
--- ---- the words of a line
+-- ---- the lines
 
--- the word of a value, where there is one
-abbrev pub optional_text : {A : Type 0} → (A → List ℕ) → Option A → List (List ℕ)
-optional_text text None = []
-optional_text text (Some x) = text x ∷ []
+literals_reads : (ls : List ℤ) (us ts : List (List ℕ)) → Spelled IsSigned ls us → Stops is_nought ts → Reads literals ls (us ++ ts) ts
+literals_reads ls us ts each stop = many_reads is_nought literal_at IsSigned ls us ts literal_on (λ l at t h. literal_reads at l t h) each stop
 
--- the hints, behind the field `0`; nothing where there are none
-abbrev pub hint_texts : List ℕ → List (List ℕ)
-hint_texts [] = []
-hint_texts (h ∷ hints) = codes "0" ∷ map (λ k. decimal k) (h ∷ hints)
+numbers_reads : (ks : List ℕ) (us : List (List ℕ)) → Spelled IsNumeral ks us → Reads numbers ks (us ++ []) []
+numbers_reads ks us each = many_reads (λ text. false) number_at IsNumeral ks us [] (λ k t h. refl) (λ k at t h. number_reads at k t h) each tt
 
-abbrev pub reason_texts : Option ℕ → Option (List ℕ) → List (List ℕ)
-reason_texts constraint label = optional_text (λ k. codes "c:" ++ decimal k) constraint ++ optional_text (λ l. codes "l:" ++ l) label
+reads_at : {X : Type 0} (read : List Word → Reading X) (x : X) (s t left : List (List ℕ)) → s ≡ t → Reads read x t left → Reads read x s left
+reads_at {X = X} read x s t left e h = subst (λ (u : List (List ℕ)). Reads read x u left) (sym e) h
 
--- the words behind the first
-abbrev pub tail_of : Line → List (List ℕ)
-tail_of (Atom id name op value) = decimal id ∷ codes "[" ∷ name ∷ op_text op ∷ signed value ∷ codes "]" ∷ []
-tail_of (Inference id premises consequent constraint label) = decimal id ∷ (map signed premises ++ codes "0" ∷ (optional_text signed consequent ++ reason_texts constraint label))
-tail_of (Nogood id atoms hints) = decimal id ∷ (map signed atoms ++ hint_texts hints)
-tail_of (Delete id) = decimal id ∷ []
-tail_of (Conclude Unsat) = codes "UNSAT" ∷ []
-tail_of (Conclude (Bound literal)) = signed literal ∷ []
-
-abbrev pub tag_of : Line → List ℕ
-tag_of (Atom id name op value) = codes "a"
-tag_of (Inference id premises consequent constraint label) = codes "i"
-tag_of (Nogood id atoms hints) = codes "n"
-tag_of (Delete id) = codes "d"
-tag_of (Conclude claim) = codes "c"
-
-atom_reads : (end id : ℕ) (name : List ℕ) (op : Op) (value : ℤ) → IsAllowed (Atom id name op value) → Reads (atom_line end) (Atom id name op value) (tail_of (Atom id name op value)) []
-atom_reads end id name op value h =
-    then_reads _ _ id _ _ _ _ (one_reads number_at end id (decimal id) _ (λ at. number_again at id h.0))
+atom_reads : (end id : ℕ) (name : List ℕ) (op : Op) (value : ℤ) (number amount : List ℕ) → IsNumeral id number → is_name name ≡ true → IsValue op value amount →
+    Reads (atom_line end) (Atom id name op value) (number ∷ codes "[" ∷ name ∷ op_text op ∷ amount ∷ codes "]" ∷ []) []
+atom_reads end id name op value number amount hid hname hvalue =
+    then_reads _ _ id _ _ _ _ (one_reads number_at end id number _ (λ at. number_reads at id number hid))
     (then_reads _ _ tt _ _ _ _ (one_reads (mark_at (codes "[")) end tt (codes "[") _ (λ at. refl))
-    (then_reads _ _ name _ _ _ _ (one_reads name_at end name name _ (λ at. name_again at name h.1))
-    (then_reads _ _ op _ _ _ _ (one_reads op_at end op (op_text op) _ (λ at. op_again at op))
-    (then_reads _ _ value _ _ _ _ (one_reads (value_at op) end value (signed value) _ (λ at. value_again op at value h.2))
+    (then_reads _ _ name _ _ _ _ (one_reads name_at end name name _ (λ at. name_reads at name hname))
+    (then_reads _ _ op _ _ _ _ (one_reads op_at end op (op_text op) _ (λ at. op_reads at op))
+    (then_reads _ _ value _ _ _ _ (one_reads (value_at op) end value amount _ (λ at. value_reads op at value amount hvalue))
     (then_reads _ _ tt _ _ _ _ (one_reads (mark_at (codes "]")) end tt (codes "]") _ (λ at. refl))
     (then_reads _ _ tt _ _ _ _ (ended_reads end) (given_reads (Atom id name op value) [])))))))
 
-literals_reads : (ls : List ℤ) (ts : List (List ℕ)) → Each IsLiteral ls → Stops is_nought ts → Reads literals ls (map signed ls ++ ts) ts
-literals_reads ls ts each stop = many_reads is_nought literal_at signed IsLiteral ls ts literal_on (λ l at h. literal_again at l h) each stop
+label_there : (end : ℕ) (l : List ℕ) (ts : List (List ℕ)) → is_label l ≡ true → Reads (label end) (Some l) ((codes "l:" ++ l) ∷ ts) ts
+label_there end l ts h = there_reads is_label_field label_at end l (codes "l:" ++ l) ts refl (λ at. label_reads at l h)
 
-numbers_reads : (ks : List ℕ) → Each IsNumber ks → Reads numbers ks (map (λ k. decimal k) ks ++ []) []
-numbers_reads ks each = many_reads (λ text. false) number_at (λ k. decimal k) IsNumber ks [] (λ k h. refl) (λ k at h. number_again at k h) each tt
+constraint_there : (end k : ℕ) (d : List ℕ) (ts : List (List ℕ)) → IsNumeral k d → Reads (constraint end) (Some k) ((codes "c:" ++ d) ∷ ts) ts
+constraint_there end k d ts h = there_reads is_constraint constraint_at end k (codes "c:" ++ d) ts refl (λ at. constraint_reads at k d h)
 
-reason_lacks : (constraint : Option ℕ) (label : Option (List ℕ)) → Lacks (λ text. not (ends_fields text)) (reason_texts constraint label)
-reason_lacks None None = refl
-reason_lacks None (Some l) = refl
-reason_lacks (Some k) label = refl
+abbrev Why : Type 0
+Why = Option ℕ × Option (List ℕ)
 
-consequent_reads : (end : ℕ) (implied : Option ℤ) (constraint : Option ℕ) (label : Option (List ℕ)) → IfSome implied IsLiteral →
-    Reads (consequent end) implied (optional_text signed implied ++ reason_texts constraint label) (reason_texts constraint label)
-consequent_reads end None constraint label h = absent_reads (λ text. not (ends_fields text)) literal_at end (reason_texts constraint label) (reason_lacks constraint label)
-consequent_reads end (Some l) constraint label h =
-    there_reads (λ text. not (ends_fields text)) literal_at end l (signed l) (reason_texts constraint label) (literal_there l h) (λ at. literal_again at l h)
+abbrev with_label : Option (List ℕ) → Option ℕ → List Word → Reading Why
+with_label l x ws = Ok ((x, l), ws)
 
-label_reads : (end : ℕ) (l : Option (List ℕ)) → IfSome l (λ t. is_label t ≡ true) → Reads (label end) l (optional_text (λ t. codes "l:" ++ t) l) []
-label_reads end None h = absent_reads is_label_field label_at end [] refl
-label_reads end (Some l) h = there_reads is_label_field label_at end l (codes "l:" ++ l) [] refl (λ at. label_again at l h)
+reason_end : (end : ℕ) (early k : Option ℕ) (l : Option (List ℕ)) (ts : List (List ℕ)) → Reads (late_constraint early end) k ts [] → Reads {X = Why} (late_constraint early end >>= (λ x. with_label l x)) (k, l) ts []
+reason_end end early k l ts h = then_reads {X = Option ℕ} {Y = Why} (late_constraint early end) (λ x. with_label l x) k (k, l) ts [] [] h (given_reads {X = Why} (k, l) [])
 
-early_reads : (end : ℕ) (k : Option ℕ) (l : Option (List ℕ)) → IfSome k IsNumber → Reads (constraint end) k (reason_texts k l) (optional_text (λ t. codes "l:" ++ t) l)
-early_reads end None None h = absent_reads is_constraint constraint_at end [] refl
-early_reads end None (Some l) h = absent_reads is_constraint constraint_at end ((codes "l:" ++ l) ∷ []) refl
-early_reads end (Some k) l h = there_reads is_constraint constraint_at end k (codes "c:" ++ decimal k) (optional_text (λ t. codes "l:" ++ t) l) refl (λ at. constraint_again at k h)
+either_order : (end k : ℕ) (l : List ℕ) (why : List (List ℕ)) (d : List ℕ) →
+    ((why ≡ (codes "c:" ++ d) ∷ (codes "l:" ++ l) ∷ []) ⊎ (why ≡ (codes "l:" ++ l) ∷ (codes "c:" ++ d) ∷ [])) → IsNumeral k d → is_label l ≡ true → Reads (reason end) (Some k, Some l) why []
+either_order end k l why d (inl e) hk hl = reads_at (reason end) (Some k, Some l) why ((codes "c:" ++ d) ∷ (codes "l:" ++ l) ∷ []) [] e
+    (then_reads _ _ (Some k) _ _ _ _ (constraint_there end k d ((codes "l:" ++ l) ∷ []) hk)
+    (then_reads _ _ (Some l) _ _ _ _ (label_there end l [] hl)
+    (reason_end end (Some k) (Some k) (Some l) [] (given_reads (Some k) []))))
+either_order end k l why d (inr e) hk hl = reads_at (reason end) (Some k, Some l) why ((codes "l:" ++ l) ∷ (codes "c:" ++ d) ∷ []) [] e
+    (then_reads _ _ None _ _ _ _ (absent_reads is_constraint constraint_at end ((codes "l:" ++ l) ∷ (codes "c:" ++ d) ∷ []) refl)
+    (then_reads _ _ (Some l) _ _ _ _ (label_there end l ((codes "c:" ++ d) ∷ []) hl)
+    (reason_end end None (Some k) (Some l) ((codes "c:" ++ d) ∷ []) (constraint_there end k d [] hk))))
 
-late_reads : (end : ℕ) (k : Option ℕ) → Reads (late_constraint k end) k [] []
-late_reads end None = absent_reads is_constraint constraint_at end [] refl
-late_reads end (Some k) = given_reads (Some k) []
+reason_reads : (end : ℕ) (k : Option ℕ) (l : Option (List ℕ)) (why : List (List ℕ)) → IsReason k l why → Reads (reason end) (k, l) why []
+reason_reads end None None why h = reads_at (reason end) (None, None) why [] [] h
+    (then_reads _ _ None _ _ _ _ (absent_reads is_constraint constraint_at end [] refl)
+    (then_reads _ _ None _ _ _ _ (absent_reads is_label_field label_at end [] refl)
+    (reason_end end None None None [] (absent_reads is_constraint constraint_at end [] refl))))
+reason_reads end (Some k) None why h = reads_at (reason end) (Some k, None) why ((codes "c:" ++ h.0) ∷ []) [] h.1
+    (then_reads _ _ (Some k) _ _ _ _ (constraint_there end k h.0 [] h.2)
+    (then_reads _ _ None _ _ _ _ (absent_reads is_label_field label_at end [] refl)
+    (reason_end end (Some k) (Some k) None [] (given_reads (Some k) []))))
+reason_reads end None (Some l) why h = reads_at (reason end) (None, Some l) why ((codes "l:" ++ l) ∷ []) [] h.0
+    (then_reads _ _ None _ _ _ _ (absent_reads is_constraint constraint_at end ((codes "l:" ++ l) ∷ []) refl)
+    (then_reads _ _ (Some l) _ _ _ _ (label_there end l [] h.1)
+    (reason_end end None None (Some l) [] (absent_reads is_constraint constraint_at end [] refl))))
+reason_reads end (Some k) (Some l) why h = either_order end k l why h.0 h.1 h.2 h.3
 
-reason_reads : (end : ℕ) (k : Option ℕ) (l : Option (List ℕ)) → IfSome k IsNumber → IfSome l (λ t. is_label t ≡ true) → Reads (reason end) (k, l) (reason_texts k l) []
-reason_reads end k l hk hl =
-    then_reads _ _ k _ _ _ _ (early_reads end k l hk)
-    (then_reads _ _ l _ _ _ _ (label_reads end l hl)
-    (then_reads _ _ k _ _ _ _ (late_reads end k) (given_reads (k, l) [])))
+either_lacks : (l : List ℕ) (why : List (List ℕ)) (d : List ℕ) → ((why ≡ (codes "c:" ++ d) ∷ (codes "l:" ++ l) ∷ []) ⊎ (why ≡ (codes "l:" ++ l) ∷ (codes "c:" ++ d) ∷ [])) →
+    Lacks (λ text. not (ends_fields text)) why
+either_lacks l why d (inl e) = subst (λ (ts : List (List ℕ)). Lacks (λ text. not (ends_fields text)) ts) (sym e) refl
+either_lacks l why d (inr e) = subst (λ (ts : List (List ℕ)). Lacks (λ text. not (ends_fields text)) ts) (sym e) refl
 
-inference_reads : (end id : ℕ) (premises : List ℤ) (implied : Option ℤ) (k : Option ℕ) (l : Option (List ℕ)) → IsAllowed (Inference id premises implied k l) →
-    Reads (inference_line end) (Inference id premises implied k l) (tail_of (Inference id premises implied k l)) []
-inference_reads end id premises implied k l h =
-    then_reads _ _ id _ _ _ _ (one_reads number_at end id (decimal id) _ (λ at. number_again at id h.0))
-    (then_reads _ _ premises _ _ _ _ (literals_reads premises (codes "0" ∷ (optional_text signed implied ++ reason_texts k l)) h.1 refl)
+reason_lacks : (k : Option ℕ) (l : Option (List ℕ)) (why : List (List ℕ)) → IsReason k l why → Lacks (λ text. not (ends_fields text)) why
+reason_lacks None None why h = subst (λ (ts : List (List ℕ)). Lacks (λ text. not (ends_fields text)) ts) (sym h) refl
+reason_lacks (Some k) None why h = subst (λ (ts : List (List ℕ)). Lacks (λ text. not (ends_fields text)) ts) (sym h.1) refl
+reason_lacks None (Some l) why h = subst (λ (ts : List (List ℕ)). Lacks (λ text. not (ends_fields text)) ts) (sym h.0) refl
+reason_lacks (Some k) (Some l) why h = either_lacks l why h.0 h.1
+
+consequent_reads : (end : ℕ) (implied : Option ℤ) (us why : List (List ℕ)) → IsConsequent implied us → Lacks (λ text. not (ends_fields text)) why → Reads (consequent end) implied (us ++ why) why
+consequent_reads end None us why h lacks = reads_at (consequent end) None (us ++ why) why why (ap (λ (vs : List (List ℕ)). vs ++ why) h)
+    (absent_reads (λ text. not (ends_fields text)) literal_at end why lacks)
+consequent_reads end (Some l) us why h lacks = reads_at (consequent end) (Some l) (us ++ why) (h.0 ∷ why) why (ap (λ (vs : List (List ℕ)). vs ++ why) h.1)
+    (there_reads (λ text. not (ends_fields text)) literal_at end l h.0 why (literal_there l h.0 h.2) (λ at. literal_reads at l h.0 h.2))
+
+inference_reads : (end id : ℕ) (premises : List ℤ) (implied : Option ℤ) (k : Option ℕ) (l : Option (List ℕ)) (number : List ℕ) (front us why : List (List ℕ)) →
+    IsNumeral id number → Spelled IsSigned premises front → IsConsequent implied us → IsReason k l why →
+    Reads (inference_line end) (Inference id premises implied k l) (number ∷ (front ++ codes "0" ∷ (us ++ why))) []
+inference_reads end id premises implied k l number front us why hid hfront hus hwhy =
+    then_reads _ _ id _ _ _ _ (one_reads number_at end id number _ (λ at. number_reads at id number hid))
+    (then_reads _ _ premises _ _ _ _ (literals_reads premises front (codes "0" ∷ (us ++ why)) hfront refl)
     (then_reads _ _ tt _ _ _ _ (one_reads (mark_at (codes "0")) end tt (codes "0") _ (λ at. refl))
-    (then_reads _ _ implied _ _ _ _ (consequent_reads end implied k l h.2)
-    (then_reads _ _ (k, l) _ _ _ _ (reason_reads end k l h.3 h.4)
+    (then_reads _ _ implied _ _ _ _ (consequent_reads end implied us why hus (reason_lacks k l why hwhy))
+    (then_reads _ _ (k, l) _ _ _ _ (reason_reads end k l why hwhy)
     (then_reads _ _ tt _ _ _ _ (ended_reads end) (given_reads (Inference id premises implied k l) []))))))
 
-hint_stops : (ks : List ℕ) → Stops is_nought (hint_texts ks)
-hint_stops [] = tt
-hint_stops (k ∷ ks) = refl
+hint_stops : (ks : List ℕ) (us : List (List ℕ)) → AreHints ks us → Stops is_nought us
+hint_stops ks us (inl h) = subst (λ (ts : List (List ℕ)). Stops is_nought ts) (sym h.0) tt
+hint_stops ks us (inr h) = subst (λ (ts : List (List ℕ)). Stops is_nought ts) (sym h.1) refl
 
-hints_reads : (end : ℕ) (ks : List ℕ) → Each IsNumber ks → Reads (hints end) ks (hint_texts ks) []
-hints_reads end [] each [] e = record { rest = []; reads = refl; spelled = refl }
-hints_reads end [] each (w ∷ ws) e = absurd cc
-hints_reads end (k ∷ ks) each [] e = absurd cc
-hints_reads end (k ∷ ks) each (w ∷ ws) e =
-    let r = (then_reads (one (mark_at (codes "0")) end) (λ separator. numbers) tt (k ∷ ks) (codes "0" ∷ map (λ j. decimal j) (k ∷ ks)) (map (λ j. decimal j) (k ∷ ks)) []
-    (one_reads (mark_at (codes "0")) end tt (codes "0") (map (λ j. decimal j) (k ∷ ks)) (λ at. refl))
-    (subst (λ (ts : List (List ℕ)). Reads numbers (k ∷ ks) ts []) (append-nil (map (λ j. decimal j) (k ∷ ks))) (numbers_reads (k ∷ ks) each))) (w ∷ ws) e in
+no_hints : (end : ℕ) → Reads (hints end) [] [] []
+no_hints end [] e = record { rest = []; reads = refl; spelled = refl }
+no_hints end (w ∷ ws) e = absurd cc
+
+some_hints : (end : ℕ) (ks : List ℕ) (us : List (List ℕ)) → Spelled IsNumeral ks us → Reads (hints end) ks (codes "0" ∷ us) []
+some_hints end ks us each [] e = absurd cc
+some_hints end ks us each (w ∷ ws) e =
+    let r = (then_reads (one (mark_at (codes "0")) end) (λ separator. numbers) tt ks (codes "0" ∷ us) us []
+      (one_reads (mark_at (codes "0")) end tt (codes "0") us (λ at. refl))
+      (reads_at numbers ks us (us ++ []) [] (sym (append-nil us)) (numbers_reads ks us each))) (w ∷ ws) e in
     record { rest = r.rest; reads = r.reads; spelled = r.spelled }
 
-nogood_reads : (end id : ℕ) (atoms : List ℤ) (by : List ℕ) → IsAllowed (Nogood id atoms by) → Reads (nogood_line end) (Nogood id atoms by) (tail_of (Nogood id atoms by)) []
-nogood_reads end id atoms by h =
-    then_reads _ _ id _ _ _ _ (one_reads number_at end id (decimal id) _ (λ at. number_again at id h.0))
-    (then_reads _ _ atoms _ _ _ _ (literals_reads atoms (hint_texts by) h.1 (hint_stops by))
-    (then_reads _ _ by _ _ _ _ (hints_reads end by h.2)
+hints_reads : (end : ℕ) (ks : List ℕ) (us : List (List ℕ)) → AreHints ks us → Reads (hints end) ks us []
+hints_reads end ks us (inl h) = subst (λ (js : List ℕ). Reads (hints end) js us []) (sym h.1) (reads_at (hints end) [] us [] [] h.0 (no_hints end))
+hints_reads end ks us (inr h) = reads_at (hints end) ks us (codes "0" ∷ h.0) [] h.1 (some_hints end ks h.0 h.2)
+
+nogood_reads : (end id : ℕ) (atoms : List ℤ) (by : List ℕ) (number : List ℕ) (front back : List (List ℕ)) → IsNumeral id number → Spelled IsSigned atoms front → AreHints by back →
+    Reads (nogood_line end) (Nogood id atoms by) (number ∷ (front ++ back)) []
+nogood_reads end id atoms by number front back hid hfront hback =
+    then_reads _ _ id _ _ _ _ (one_reads number_at end id number _ (λ at. number_reads at id number hid))
+    (then_reads _ _ atoms _ _ _ _ (literals_reads atoms front back hfront (hint_stops by back hback))
+    (then_reads _ _ by _ _ _ _ (hints_reads end by back hback)
     (then_reads _ _ tt _ _ _ _ (ended_reads end) (given_reads (Nogood id atoms by) []))))
 
-claim_again : (at : ℕ) (l : ℤ) → IsLiteral l → claim_at at (signed l) ≡ Ok (Bound l)
-claim_again at l h = rw (literal_word l h, literal_again at l h) refl
-
-conclusion_reads : (end : ℕ) (claim : Claim) → IsAllowedClaim claim → Reads (conclusion_line end) (Conclude claim) (tail_of (Conclude claim)) []
-conclusion_reads end Unsat h =
-    then_reads _ _ Unsat _ _ _ _ (one_reads claim_at end Unsat (codes "UNSAT") [] (λ at. refl))
-    (then_reads _ _ tt _ _ _ _ (ended_reads end) (given_reads (Conclude Unsat) []))
-conclusion_reads end (Bound l) h =
-    then_reads _ _ (Bound l) _ _ _ _ (one_reads claim_at end (Bound l) (signed l) [] (λ at. claim_again at l h))
-    (then_reads _ _ tt _ _ _ _ (ended_reads end) (given_reads (Conclude (Bound l)) []))
-
-pub line_reads : (end : ℕ) (line : Line) → IsAllowed line → Reads (line_of end) line (tag_of line ∷ tail_of line) []
-line_reads end (Atom id name op value) h =
-    then_reads _ _ AtomLine _ _ _ _ (one_reads kind_at end AtomLine (codes "a") _ (λ at. refl)) (atom_reads end id name op value h)
-line_reads end (Inference id premises implied k l) h =
-    then_reads _ _ InferenceLine _ _ _ _ (one_reads kind_at end InferenceLine (codes "i") _ (λ at. refl)) (inference_reads end id premises implied k l h)
-line_reads end (Nogood id atoms by) h =
-    then_reads _ _ NogoodLine _ _ _ _ (one_reads kind_at end NogoodLine (codes "n") _ (λ at. refl)) (nogood_reads end id atoms by h)
-line_reads end (Delete id) h = absurd h
-line_reads end (Conclude claim) h =
-    then_reads _ _ ConclusionLine _ _ _ _ (one_reads kind_at end ConclusionLine (codes "c") _ (λ at. refl)) (conclusion_reads end claim h)
+pub line_reads : (end : ℕ) (line : Line) (ts : List (List ℕ)) → Spells line ts → Reads (line_of end) line ts []
+line_reads end (Atom id name op value) ts h = reads_at (line_of end) (Atom id name op value) ts _ [] h.whole
+    (then_reads _ _ AtomLine _ _ _ _ (one_reads kind_at end AtomLine (codes "a") _ (λ at. refl)) (atom_reads end id name op value h.number h.amount h.id_is h.name_is h.value_is))
+line_reads end (Inference id premises implied k l) ts h = reads_at (line_of end) (Inference id premises implied k l) ts _ [] h.whole
+    (then_reads _ _ InferenceLine _ _ _ _ (one_reads kind_at end InferenceLine (codes "i") _ (λ at. refl))
+      (inference_reads end id premises implied k l h.number h.front h.implied h.why h.id_is h.premises_are h.consequent_is h.reason_is))
+line_reads end (Nogood id atoms by) ts h = reads_at (line_of end) (Nogood id atoms by) ts _ [] h.whole
+    (then_reads _ _ NogoodLine _ _ _ _ (one_reads kind_at end NogoodLine (codes "n") _ (λ at. refl)) (nogood_reads end id atoms by h.number h.front h.back h.id_is h.atoms_are h.hints_are))
+line_reads end (Delete id) ts h = absurd h
+line_reads end (Conclude Unsat) ts h = reads_at (line_of end) (Conclude Unsat) ts (codes "c" ∷ codes "UNSAT" ∷ []) [] h
+    (then_reads _ _ ConclusionLine _ _ _ _ (one_reads kind_at end ConclusionLine (codes "c") _ (λ at. refl))
+    (then_reads _ _ Unsat _ _ _ _ (one_reads claim_at end Unsat (codes "UNSAT") [] (λ at. refl))
+    (then_reads _ _ tt _ _ _ _ (ended_reads end) (given_reads (Conclude Unsat) []))))
+line_reads end (Conclude (Bound l)) ts h = reads_at (line_of end) (Conclude (Bound l)) ts (codes "c" ∷ h.0 ∷ []) [] h.1
+    (then_reads _ _ ConclusionLine _ _ _ _ (one_reads kind_at end ConclusionLine (codes "c") _ (λ at. refl))
+    (then_reads _ _ (Bound l) _ _ _ _ (one_reads claim_at end (Bound l) h.0 [] (λ at. claim_reads at l h.0 h.2))
+    (then_reads _ _ tt _ _ _ _ (ended_reads end) (given_reads (Conclude (Bound l)) []))))

@@ -16,6 +16,7 @@ use Rattle.dp_lines.specs.Fields.{Reading, line_of}
 use Rattle.dp_lines.specs.Kept.{has_no_feed, is_no_feed}
 use Rattle.dp_lines.specs.Lines.{Lines, judged, judged_by, judged_content, judged_words, led_by, lines_behind, with_line}
 use Rattle.dp_lines.specs.RawLines.{Raw, content, raw_lines, with_byte}
+use Rattle.dp_lines.specs.Lenient.{Spells, texts}
 use Rattle.dp_lines.specs.Spelling.{atom_text, field, field_of, fields_text, hints_text, line_text, literals_text, op_text, signed}
 use Rattle.dp_lines.specs.Words.{Word, end_of, is_decimal, words}
 use Rattle.dp_lines.specs.declared.judge.Judged.{Judged}
@@ -26,17 +27,31 @@ use Rattle.dp_lines.specs.declared.line.Claim.{Claim}
 use Rattle.dp_lines.specs.declared.line.Claim.TheVariants.{Unsat, Bound}
 use Rattle.dp_lines.specs.declared.refusal.Limits.{Limits}
 use Rattle.dp_lines.proofs.FigureLaws.{decimal_digits, value_size}
-use Rattle.dp_lines.proofs.ReadingLaws.{IsRead, line_reads, tag_of, tail_of, texts}
-use Rattle.dp_lines.proofs.SpellingLaws.{says_line}
+use Rattle.dp_lines.proofs.ReadingLaws.{IsRead, line_reads}
+use Rattle.dp_lines.proofs.SpellingLaws.{canonical_spells, says_line}
 
 -- ---- one line
 
-read_from : (number end : ℕ) (ws : List Word) (line : Line) → IsAllowed line → texts ws ≡ tag_of line ∷ tail_of line → judged_words number end ws ≡ Given line
-read_from number end [] line h e = absurd cc
-read_from number end (w ∷ ws) line h e = let r = line_reads end line h (w ∷ ws) e in ap (judged_by number) r.reads
+-- no words spell no line
+unspelled : (line : Line) → Spells line [] → ⊥
+unspelled (Atom id name op value) h = let e = h.whole in cc
+unspelled (Inference id premises implied k l) h = let e = h.whole in cc
+unspelled (Nogood id atoms by) h = let e = h.whole in cc
+unspelled (Delete id) h = h
+unspelled (Conclude Unsat) h = cc
+unspelled (Conclude (Bound l)) h = let e = h.1 in cc
+
+-- words that spell a line are judged so
+read_from : (number end : ℕ) (ws : List Word) (line : Line) → Spells line (texts ws) → judged_words number end ws ≡ Given line
+read_from number end [] line h = absurd (unspelled line h)
+read_from number end (w ∷ ws) line h = let r = line_reads end line (texts (w ∷ ws)) h (w ∷ ws) refl in ap (judged_by number) r.reads
+
+pub spelled_given : (number : ℕ) (bytes : List ℕ) (line : Line) → Spells line (texts (words bytes)) → judged_content number bytes ≡ Given line
+spelled_given number bytes line h = read_from number (end_of bytes) (words bytes) line h
 
 pub line_again : (number : ℕ) (line : Line) → IsAllowed line → judged_content number (fields_text line) ≡ Given line
-line_again number line h = read_from number (end_of (fields_text line)) (words (fields_text line)) line h (says_line line h 1)
+line_again number line h =
+    spelled_given number (fields_text line) line (subst (λ (ts : List (List ℕ)). Spells line ts) (sym (says_line line h 1)) (canonical_spells line h))
 
 -- ---- bytes within a line
 

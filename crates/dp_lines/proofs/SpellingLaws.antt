@@ -15,15 +15,48 @@ use Rattle.dp_domain.specs.Atoms.{IsNameable}
 use Rattle.dp_domain.specs.declared.atom.Op.{Op}
 use Rattle.dp_domain.specs.declared.atom.Op.TheVariants.{Ge, Le, Eq, Ne}
 use Rattle.dp_lines.specs.Allowed.{IsAllowed, IsAllowedClaim, IsLiteral, IsNumber, is_label}
+use Rattle.dp_lines.specs.Lenient.{AreHints, IsConsequent, IsNumeral, IsReason, IsSigned, Spelled, Spells, texts}
 use Rattle.dp_lines.specs.Spelling.{atom_text, field, field_of, fields_text, hints_text, literals_text, op_text, signed}
 use Rattle.dp_lines.specs.Words.{Word, begins_comparison, begins_negative, is_blank, is_decimal, is_inside_behind, opens, word_len, words_from}
 use Rattle.dp_lines.specs.declared.line.Line.{Line}
 use Rattle.dp_lines.specs.declared.line.Line.TheVariants.{Atom, Inference, Nogood, Delete, Conclude}
 use Rattle.dp_lines.specs.declared.line.Claim.{Claim}
 use Rattle.dp_lines.specs.declared.line.Claim.TheVariants.{Unsat, Bound}
-use Rattle.dp_lines.proofs.FigureLaws.{decimal_digits, decimal_some, value_size}
-use Rattle.dp_lines.proofs.ReadingLaws.{hint_texts, optional_text, reason_texts, tag_of, tail_of, texts}
+use Rattle.dp_lines.proofs.FigureLaws.{decimal_digits, decimal_some, numeral_is, signed_is, value_is, value_size}
 use Rattle.dp_lines.proofs.WordLaws.{led, no_words, word_front, word_stepped}
+
+-- ---- the words of a line in its canonical spelling
+
+-- the word of a value, where there is one
+abbrev pub optional_text : {A : Type 0} → (A → List ℕ) → Option A → List (List ℕ)
+optional_text text None = []
+optional_text text (Some x) = text x ∷ []
+
+-- the hints, behind the field `0`; nothing where there are none
+abbrev pub hint_texts : List ℕ → List (List ℕ)
+hint_texts [] = []
+hint_texts (h ∷ hints) = codes "0" ∷ map (λ k. decimal k) (h ∷ hints)
+
+abbrev pub reason_texts : Option ℕ → Option (List ℕ) → List (List ℕ)
+reason_texts constraint label = optional_text (λ k. codes "c:" ++ decimal k) constraint ++ optional_text (λ l. codes "l:" ++ l) label
+
+-- the words behind the first
+abbrev pub tail_of : Line → List (List ℕ)
+tail_of (Atom id name op value) = decimal id ∷ codes "[" ∷ name ∷ op_text op ∷ signed value ∷ codes "]" ∷ []
+tail_of (Inference id premises consequent constraint label) = decimal id ∷ (map signed premises ++ codes "0" ∷ (optional_text signed consequent ++ reason_texts constraint label))
+tail_of (Nogood id atoms hints) = decimal id ∷ (map signed atoms ++ hint_texts hints)
+tail_of (Delete id) = decimal id ∷ []
+tail_of (Conclude Unsat) = codes "UNSAT" ∷ []
+tail_of (Conclude (Bound literal)) = signed literal ∷ []
+
+abbrev pub tag_of : Line → List ℕ
+tag_of (Atom id name op value) = codes "a"
+tag_of (Inference id premises consequent constraint label) = codes "i"
+tag_of (Nogood id atoms hints) = codes "n"
+tag_of (Delete id) = codes "d"
+tag_of (Conclude claim) = codes "c"
+
+-- ---- bytes as words
 
 -- wherever these bytes stand, within brackets or not, they are words with these bytes
 abbrev pub Says : Bool → List ℕ → List (List ℕ) → Type 0
@@ -335,3 +368,56 @@ says_line (Nogood id atoms by) h =
     (says_flat signed IsLiteral atoms (hints_text by) (hint_texts by) literal_field h.1 (hints_break by) (says_hints by h.2)))
 says_line (Delete id) h = absurd h
 says_line (Conclude claim) h = says_claim claim h
+
+-- ---- these words spell the line
+
+spelled_map : {A : Type 0} (R : A → List ℕ → Type 0) (text : A → List ℕ) (P : A → Type 0) (xs : List A) → ((x : A) → P x → R x (text x)) → Each P xs → Spelled R xs (map text xs)
+spelled_map R text P [] h each = tt
+spelled_map R text P (x ∷ xs) h each = (h x each.0, spelled_map R text P xs h each.1)
+
+consequent_is : (implied : Option ℤ) → IfSome implied IsLiteral → IsConsequent implied (optional_text signed implied)
+consequent_is None h = refl
+consequent_is (Some l) h = (signed l, refl, signed_is l h)
+
+reason_is : (k : Option ℕ) (l : Option (List ℕ)) → IfSome k IsNumber → IfSome l (λ t. is_label t ≡ true) → IsReason k l (reason_texts k l)
+reason_is None None hk hl = refl
+reason_is (Some k) None hk hl = (decimal k, refl, numeral_is k hk)
+reason_is None (Some l) hk hl = (refl, hl)
+reason_is (Some k) (Some l) hk hl = (decimal k, inl refl, numeral_is k hk, hl)
+
+hints_are : (ks : List ℕ) → Each IsNumber ks → AreHints ks (hint_texts ks)
+hints_are [] each = inl (refl, refl)
+hints_are (k ∷ ks) each = inr (map (λ j. decimal j) (k ∷ ks), refl, spelled_map IsNumeral (λ j. decimal j) IsNumber (k ∷ ks) numeral_is each)
+
+pub canonical_spells : (line : Line) → IsAllowed line → Spells line (tag_of line ∷ tail_of line)
+canonical_spells (Atom id name op value) h = record {
+  number = decimal id;
+  amount = signed value;
+  whole = refl;
+  id_is = numeral_is id h.0;
+  name_is = h.1;
+  value_is = value_is op value h.2;
+}
+canonical_spells (Inference id premises implied k l) h = record {
+  number = decimal id;
+  front = map signed premises;
+  implied = optional_text signed implied;
+  why = reason_texts k l;
+  whole = refl;
+  id_is = numeral_is id h.0;
+  premises_are = spelled_map IsSigned signed IsLiteral premises signed_is h.1;
+  consequent_is = consequent_is implied h.2;
+  reason_is = reason_is k l h.3 h.4;
+}
+canonical_spells (Nogood id atoms by) h = record {
+  number = decimal id;
+  front = map signed atoms;
+  back = hint_texts by;
+  whole = refl;
+  id_is = numeral_is id h.0;
+  atoms_are = spelled_map IsSigned signed IsLiteral atoms signed_is h.1;
+  hints_are = hints_are by h.2;
+}
+canonical_spells (Delete id) h = absurd h
+canonical_spells (Conclude Unsat) h = refl
+canonical_spells (Conclude (Bound l)) h = (signed l, refl, signed_is l h)

@@ -30,6 +30,10 @@ pub no_words : (inside : Bool) (at k : ℕ) → words_from inside at k [] ≡ []
 unfolding words_from
 no_words inside at k = refl
 
+pub word_taken : (inside : Bool) (at k b : ℕ) (s : List ℕ) → words_from inside at (suc k) (b ∷ s) ≡ words_from inside (at + 1) k s
+unfolding words_from
+word_taken inside at k b s = refl
+
 one_blank : (b : ℕ) (s : List ℕ) → is_blank b ≡ true → prefix_len is_blank (b ∷ s) ≡ suc (prefix_len is_blank s)
 one_blank b s is = ap (λ (c : Bool). cond c (1 + prefix_len is_blank s) 0) is ∙ omega arith
 

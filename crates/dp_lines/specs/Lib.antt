@@ -3,6 +3,7 @@ pub mod Answers
 pub mod Fields
 pub mod Figures
 pub mod Kept
+pub mod Lenient
 pub mod Lines
 pub mod Logs
 pub mod Parts

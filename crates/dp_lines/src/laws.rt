@@ -1,11 +1,13 @@
 // The laws of reading, over the definitions alone.
 
-ghost use Rattle.std.specs.Prelude.{◌≡◌, ◌+◌, ◌≤◌, ◌++◌, ℕ, true, false, List, [], length, None, Ok};
+ghost use Rattle.std.specs.Prelude.{◌≡◌, ◌+◌, ◌≤◌, ◌++◌, ◌↔◌, ℕ, true, false, List, [], length, None, Ok};
 ghost use Rattle.dp_lines.specs.Allowed.{IsAllowed};
 ghost use Rattle.dp_lines.specs.RawLines.{raw_lines};
 ghost use Rattle.dp_lines.specs.Lines.{judged_content, lines, lines_behind, no_lines, with_line};
 ghost use Rattle.dp_lines.specs.Readers.{State, after, answer_of, fresh, left};
 ghost use Rattle.dp_lines.specs.Runs.{Call, IsInOrder, fed_by, run, with_all};
+ghost use Rattle.dp_lines.specs.Lenient.{Spells, texts};
+ghost use Rattle.dp_lines.specs.Words.{words};
 ghost use Rattle.dp_lines.specs.Spelling.{fields_text, line_text};
 ghost use Rattle.dp_lines.specs.declared.judge.Judged.TheVariants.{Given};
 ghost use Rattle.dp_lines.specs.declared.line.Line.{Line};
@@ -37,4 +39,10 @@ pub fn round_trip()
         length (fields_text line) ≤ limits.line → passed + length (line_text line) ≤ limits.total →
         lines_behind limits count passed (raw_lines (line_text line ++ rest))
         ≡ with_line (count + 1) line (lines_behind limits (count + 1) (passed + length (line_text line)) (raw_lines rest)) }
+{}
+
+/// The line of some bytes before a line's end is the one that their words spell, if they spell one.
+#[tactic(auto, using(crate::proofs::LenientLaws::given_is_spelled))]
+pub fn every_spelling()
+    ensures { (number : ℕ) (bytes : List ℕ) (line : Line) → (judged_content number bytes ≡ Given line) ↔ Spells line (texts (words bytes)) }
 {}
