@@ -4,6 +4,7 @@ pub mod FlawLaws
 pub mod LenientLaws
 pub mod ManyLaws
 pub mod RawLaws
+pub mod ReadBackLaws
 pub mod ReadingLaws
 pub mod RoundTrip
 pub mod RunLaws

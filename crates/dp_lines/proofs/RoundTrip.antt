@@ -205,19 +205,21 @@ cut_front (b ∷ s) rest h =
     ap (λ (c : Bool). cond c (record { bytes = []; fed = true } ∷ raw_lines (s ++ 10 ∷ rest)) (with_byte b (raw_lines (s ++ 10 ∷ rest)))) unfed
     ∙ ap (with_byte b) (cut_front s rest parts.1)
 
-judged_again : (limits : Limits) (number passed : ℕ) (line : Line) → IsAllowed line → length (fields_text line) ≤ limits.line → passed + (length (fields_text line) + 1) ≤ limits.total →
+pub judged_again : (limits : Limits) (number passed : ℕ) (line : Line) → IsAllowed line → length (fields_text line) ≤ limits.line → passed + (length (fields_text line) + 1) ≤ limits.total →
     judged limits number passed (record { bytes = fields_text line; fed = true }) ≡ Given line
 judged_again limits number passed line h short within =
     let a : nat_lt limits.total (passed + (length (fields_text line) + 1)) ≡ false = le-ltb limits.total (passed + (length (fields_text line) + 1)) within in
     let b : nat_lt limits.line (length (fields_text line)) ≡ false = le-ltb limits.line (length (fields_text line)) short in
     rw (a, b) (ap (judged_content number) (whole_content (fields_text line) (line_inner line h)) ∙ line_again number line h)
 
+-- the line is the first raw line
+pub line_cut : (line : Line) (rest : List ℕ) → IsAllowed line → raw_lines (line_text line ++ rest) ≡ record { bytes = fields_text line; fed = true } ∷ raw_lines rest
+line_cut line rest h = ap raw_lines (append_assoc (fields_text line) (10 ∷ []) rest) ∙ cut_front (fields_text line) rest (no_feed (fields_text line) (line_inner line h))
+
 pub log_again : (limits : Limits) (count passed : ℕ) (line : Line) (rest : List ℕ) → IsAllowed line → length (fields_text line) ≤ limits.line → passed + length (line_text line) ≤ limits.total →
     lines_behind limits count passed (raw_lines (line_text line ++ rest)) ≡ with_line (count + 1) line (lines_behind limits (count + 1) (passed + length (line_text line)) (raw_lines rest))
 log_again limits count passed line rest h short within =
     let z : length (line_text line) ≡ length (fields_text line) + 1 = length-append (fields_text line) (10 ∷ []) in
-    let whole : raw_lines (line_text line ++ rest) ≡ record { bytes = fields_text line; fed = true } ∷ raw_lines rest =
-    ap raw_lines (append_assoc (fields_text line) (10 ∷ []) rest) ∙ cut_front (fields_text line) rest (no_feed (fields_text line) (line_inner line h)) in
-    ap (lines_behind limits count passed) whole
+    ap (lines_behind limits count passed) (line_cut line rest h)
     ∙ ap (λ (j : Judged). led_by (count + 1) j (lines_behind limits (count + 1) (passed + (length (fields_text line) + 1)) (raw_lines rest))) (judged_again limits (count + 1) passed line h short (omega (arith, z)))
     ∙ ap (λ (n : ℕ). with_line (count + 1) line (lines_behind limits (count + 1) (passed + n) (raw_lines rest))) (sym z)

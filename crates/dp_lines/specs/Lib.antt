@@ -6,6 +6,7 @@ pub mod Figures
 pub mod Kept
 pub mod Lenient
 pub mod Lines
+pub mod Logs
 pub mod Parts
 pub mod RawLines
 pub mod Readers

@@ -7,6 +7,7 @@ mod judge;
 mod laws;
 mod line;
 mod lists;
+pub mod readback;
 mod reader;
 mod refusal;
 mod step;
