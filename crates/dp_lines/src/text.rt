@@ -64,8 +64,16 @@ fn push_atom(text: &mut Vec<u8>, id: u64, name: &Name, op: Op, value: i64) -> Re
 {
     text.push(b'a')?;
     push_number(text, id)?;
-    text.extend_from_slice(b" [")?;
-    text.extend_from_slice(name.bytes())?;
+    text.push(b' ')?;
+    push_atom_text(text, name.bytes(), op, value)
+}
+
+/// Appends an atom as it is written: `[NAME OP VALUE]`.
+pub fn push_atom_text(text: &mut Vec<u8>, name: &[u8], op: Op, value: i64) -> Result<(), Memory>
+    ensures { OnOk result (text.new.items ≡ text.old.items ++ spelling.atom_text name.now op value) }
+{
+    text.push(b'[')?;
+    text.extend_from_slice(name)?;
     text.push(b' ')?;
     text.extend_from_slice(op_text(op))?;
     push_literal(text, value)?;

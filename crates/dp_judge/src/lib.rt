@@ -1,0 +1,8 @@
+//! A log judged over a problem: its bytes are read line by line, and each line is given the tests of the checker.
+#![tactic(auto)]
+
+mod answer;
+mod judge;
+
+pub use answer::LogAnswer;
+pub use judge::judge_log;
