@@ -1,0 +1,10 @@
+pub mod AllowedLaws
+pub mod FigureLaws
+pub mod ManyLaws
+pub mod RawLaws
+pub mod ReadingLaws
+pub mod RoundTrip
+pub mod RunLaws
+pub mod SpellingLaws
+pub mod StepLaws
+pub mod WordLaws

@@ -1,2 +1,13 @@
-pub mod Spelling
 pub mod Allowed
+pub mod Answers
+pub mod Fields
+pub mod Figures
+pub mod Kept
+pub mod Lines
+pub mod Parts
+pub mod RawLines
+pub mod Readers
+pub mod Runs
+pub mod Spelling
+pub mod Standing
+pub mod Words

@@ -1,0 +1,589 @@
+ghost use Rattle.std.specs.Prelude.{◌≡◌, ◌+◌, ◌≤◌, ◌<◌, ◌^◌, length, false};
+ghost use Rattle.dp_lines.specs.Readers.{total};
+
+use super::*;
+use dp_domain::{Memory, Name, Op};
+use std::alloc::Global;
+use std::test::Fail;
+
+/// What is wanted of a line.
+#[derive(Clone, Copy)]
+enum Wanted {
+    Atom(u64, &'static [u8], Op, i64),
+    Inference(u64, &'static [i64], Option<i64>, Option<u64>, &'static [u8]),
+    Nogood(u64, &'static [i64], &'static [u64]),
+    Unsat,
+    Bound(i64),
+}
+
+fn is_label(label: &Option<Name>, wanted: &[u8]) -> bool {
+    match label {
+        Some(label) => label.bytes() == wanted,
+        None => wanted.is_empty(),
+    }
+}
+
+fn is_wanted(line: &Line, wanted: Wanted) -> bool {
+    match (line, wanted) {
+        (
+            Line::Atom {
+                id,
+                name,
+                op,
+                value,
+            },
+            Wanted::Atom(i, n, o, v),
+        ) => *id == i && name.bytes() == n && *op == o && *value == v,
+        (
+            Line::Inference {
+                id,
+                premises,
+                consequent,
+                constraint,
+                label,
+            },
+            Wanted::Inference(i, p, q, k, l),
+        ) => {
+            *id == i
+                && premises.as_slice() == p
+                && *consequent == q
+                && *constraint == k
+                && is_label(label, l)
+        }
+        (Line::Nogood { id, atoms, hints }, Wanted::Nogood(i, a, h)) => {
+            *id == i && atoms.as_slice() == a && hints.as_slice() == h
+        }
+        (Line::Conclude(Claim::Unsat), Wanted::Unsat) => true,
+        (Line::Conclude(Claim::Bound(literal)), Wanted::Bound(l)) => *literal == l,
+        _ => false,
+    }
+}
+
+/// Takes lines while they are the wanted ones from the place `at` on: the place behind them, one past all after another
+/// line, and the fault that ended them.
+fn take(reader: &mut Reader, wanted: &[(u64, Wanted)], at: usize) -> (usize, Option<LineFault>)
+    requires { length wanted.now < 2 ^ 62 }
+    ensures total { total reader.new ≡ total reader.old }
+    ensures ended { reader.new.ended ≡ reader.old.ended }
+{
+    for place in at..wanted.len() {
+        match reader.line() {
+            Ok(Some((number, line))) => {
+                let (other, kind) = wanted[place];
+                if number != other || !is_wanted(&line, kind) {
+                    return (wanted.len() + 1, None);
+                }
+            }
+            Ok(None) => return (place, None),
+            Err(fault) => return (place, Some(fault)),
+        }
+    }
+    match reader.line() {
+        Ok(Some(_)) => (wanted.len() + 1, None),
+        Ok(None) => (at.max(wanted.len()), None),
+        Err(fault) => (at.max(wanted.len()), Some(fault)),
+    }
+}
+
+/// What is read of a text that is fed in two pieces: how many of the wanted lines, and the fault that ends them.
+fn in_two(
+    alloc: Global,
+    limits: Limits,
+    text: &[u8],
+    place: usize,
+    wanted: &[(u64, Wanted)],
+) -> Result<(usize, Option<LineFault>), Memory>
+    requires line { limits.line ≤ 2 ^ 62 }
+    requires all { limits.total ≤ 2 ^ 62 }
+    requires few { length wanted.now < 2 ^ 62 }
+    requires small { length text.now < 2 ^ 62 }
+    requires within { place ≤ length text.now }
+{
+    let mut reader = Reader::new(alloc, limits);
+    let (front, back) = text.split_at(place);
+    reader.feed(front)?;
+    let (at, _) = take(&mut reader, wanted, 0);
+    reader.feed(back)?;
+    let (at, _) = take(&mut reader, wanted, at);
+    reader.end();
+    Ok(take(&mut reader, wanted, at))
+}
+
+/// The same of a small text that is fed byte by byte.
+fn bytewise(
+    alloc: Global,
+    limits: Limits,
+    text: &[u8],
+    wanted: &[(u64, Wanted)],
+) -> Result<(usize, Option<LineFault>), Memory> {
+    if limits.line > WIDE.line || limits.total > WIDE.total {
+        return Err(Memory);
+    }
+    if text.len() > 4096 || wanted.len() > 4096 {
+        return Err(Memory);
+    }
+    let mut reader = Reader::new(alloc, limits);
+    let mut at = 0;
+    for byte in text {
+        reader.feed(&[*byte])?;
+        at = take(&mut reader, wanted, at).0;
+    }
+    reader.end();
+    Ok(take(&mut reader, wanted, at))
+}
+
+const WIDE: Limits = Limits {
+    line: 16_777_216,
+    total: 1_099_511_627_776,
+};
+
+const LOG: &[u8] = b"a 1 [x >= 3]
+i 1 0 -1 c:1 l:linear
+a 2 [y >= 3]
+i 2 0 -2 c:1 l:linear
+a 3 [x >= 1]
+i 3 -2 0 3 c:2 l:linear
+a 4 [y >= 2]
+i 4 3 0 -4 c:1 l:linear
+a 5 [x >= 2]
+i 5 -4 0 5 c:2 l:linear
+a 6 [y >= 1]
+i 6 5 0 -6 c:1 l:linear
+i 7 -1 -6 0 c:2 l:linear
+n 8 0 1 2 3 4 5 6 7
+c UNSAT
+";
+
+const LOG_LINES: [(u64, Wanted); 15] = [
+    (1, Wanted::Atom(1, b"x", Op::Ge, 3)),
+    (2, Wanted::Inference(1, &[], Some(-1), Some(1), b"linear")),
+    (3, Wanted::Atom(2, b"y", Op::Ge, 3)),
+    (4, Wanted::Inference(2, &[], Some(-2), Some(1), b"linear")),
+    (5, Wanted::Atom(3, b"x", Op::Ge, 1)),
+    (6, Wanted::Inference(3, &[-2], Some(3), Some(2), b"linear")),
+    (7, Wanted::Atom(4, b"y", Op::Ge, 2)),
+    (8, Wanted::Inference(4, &[3], Some(-4), Some(1), b"linear")),
+    (9, Wanted::Atom(5, b"x", Op::Ge, 2)),
+    (10, Wanted::Inference(5, &[-4], Some(5), Some(2), b"linear")),
+    (11, Wanted::Atom(6, b"y", Op::Ge, 1)),
+    (12, Wanted::Inference(6, &[5], Some(-6), Some(1), b"linear")),
+    (
+        13,
+        Wanted::Inference(7, &[-1, -6], None, Some(2), b"linear"),
+    ),
+    (14, Wanted::Nogood(8, &[], &[1, 2, 3, 4, 5, 6, 7])),
+    (15, Wanted::Unsat),
+];
+
+#[test]
+fn a_log_is_read_in_any_pieces(rt: HostRuntime) -> Result<(), Fail> {
+    for place in 0..LOG.len() + 1 {
+        assert_eq!(rt;
+            in_two(rt.alloc(), WIDE, LOG, place, &LOG_LINES)?,
+            (15, None)
+        );
+    }
+    assert_eq!(rt; bytewise(rt.alloc(), WIDE, LOG, &LOG_LINES)?, (15, None));
+    Ok(())
+}
+
+/// A line that is wanted of a whole text.
+type Spelled = (&'static str, &'static [u8], Wanted);
+
+const LARGEST: i64 = 1_000_000_000_000_000_000;
+
+const SPELLINGS: [Spelled; 22] = [
+    ("CR LF", b"c UNSAT\r\n", Wanted::Unsat),
+    ("CR at the end", b"c UNSAT\r", Wanted::Unsat),
+    ("blanks", b" \tc\t \tUNSAT \n", Wanted::Unsat),
+    ("a bound", b"c 5", Wanted::Bound(5)),
+    ("a negative bound with zeros", b"c -05", Wanted::Bound(-5)),
+    (
+        "no blanks in brackets",
+        b"a 01 [x!=3]",
+        Wanted::Atom(1, b"x", Op::Ne, 3),
+    ),
+    (
+        "blanks in brackets",
+        b"a 1 [ _a1\t<= -07 ] ",
+        Wanted::Atom(1, b"_a1", Op::Le, -7),
+    ),
+    ("zero", b"a 1 [x == 0]", Wanted::Atom(1, b"x", Op::Eq, 0)),
+    (
+        "the largest of >=",
+        b"a 1 [x >= 1000000000000000000]",
+        Wanted::Atom(1, b"x", Op::Ge, LARGEST),
+    ),
+    (
+        "the least of >=",
+        b"a 1 [x >= -999999999999999999]",
+        Wanted::Atom(1, b"x", Op::Ge, 1 - LARGEST),
+    ),
+    (
+        "the largest of <=",
+        b"a 1 [x <= 999999999999999999]",
+        Wanted::Atom(1, b"x", Op::Le, LARGEST - 1),
+    ),
+    (
+        "the least of <=",
+        b"a 1 [x <= -1000000000000000000]",
+        Wanted::Atom(1, b"x", Op::Le, -LARGEST),
+    ),
+    (
+        "the largest of ==",
+        b"a 1 [x == 1000000000000000000]",
+        Wanted::Atom(1, b"x", Op::Eq, LARGEST),
+    ),
+    (
+        "the least of !=",
+        b"a 1 [x != -001000000000000000000]",
+        Wanted::Atom(1, b"x", Op::Ne, -LARGEST),
+    ),
+    (
+        "no constraint and no label",
+        b"i 1 0",
+        Wanted::Inference(1, &[], None, None, b""),
+    ),
+    (
+        "the constraint behind the label",
+        b"i 1 2 -3 0 l:a_1 c:007",
+        Wanted::Inference(1, &[2, -3], None, Some(7), b"a_1"),
+    ),
+    (
+        "a label alone",
+        b"i 1 0 4 l:0",
+        Wanted::Inference(1, &[], Some(4), None, b"0"),
+    ),
+    (
+        "the largest constraint",
+        b"i 1 0 c:1000000000000000000",
+        Wanted::Inference(1, &[], None, Some(1_000_000_000_000_000_000), b""),
+    ),
+    ("no hints", b"n 1 2 -3", Wanted::Nogood(1, &[2, -3], &[])),
+    (
+        "no hints behind the zero",
+        b"n 1 0",
+        Wanted::Nogood(1, &[], &[]),
+    ),
+    (
+        "neither atoms nor hints",
+        b"n 01 ",
+        Wanted::Nogood(1, &[], &[]),
+    ),
+    (
+        "the largest numbers",
+        b"n 001000000000000000000 -0001000000000000000000 0 01000000000000000000",
+        Wanted::Nogood(
+            1_000_000_000_000_000_000,
+            &[-LARGEST],
+            &[1_000_000_000_000_000_000],
+        ),
+    ),
+];
+
+#[test]
+fn lenient_spellings(rt: HostRuntime) -> Result<(), Fail> {
+    for (name, text, wanted) in SPELLINGS {
+        assert_eq!(rt;
+            (name, bytewise(rt.alloc(), WIDE, text, &[(1, wanted)])?),
+            (name, (1, None))
+        );
+    }
+    Ok(())
+}
+
+/// A text whose first line is refused.
+type Refused = (&'static str, &'static [u8], LineRefusal);
+
+const FORMS: [Refused; 44] = [
+    ("no number", b"n\n", LineRefusal::Form(1, 2)),
+    ("no number behind blanks", b"n  ", LineRefusal::Form(1, 4)),
+    ("no claim", b"c", LineRefusal::Form(1, 2)),
+    ("no claim before CR", b"c\r\n", LineRefusal::Form(1, 2)),
+    ("another letter", b" \tx 1", LineRefusal::Form(1, 3)),
+    ("a letter with its number", b"n1 2", LineRefusal::Form(1, 1)),
+    ("a CR alone", b"\r\r\n", LineRefusal::Form(1, 1)),
+    (
+        "a CR is no line end",
+        b"c UNSAT\rc UNSAT",
+        LineRefusal::Form(1, 3),
+    ),
+    ("a CR in a field", b"n 1 2\r3", LineRefusal::Form(1, 5)),
+    (
+        "a byte that is not allowed",
+        b"n 1 \x80",
+        LineRefusal::Form(1, 5),
+    ),
+    ("a NUL", b"n 1 2\x00", LineRefusal::Form(1, 5)),
+    ("a word cut short", b"c UNS", LineRefusal::Form(1, 3)),
+    ("another case", b"c unsat", LineRefusal::Form(1, 3)),
+    ("more than a claim", b"c UNSAT 1", LineRefusal::Form(1, 9)),
+    (
+        "a negative number",
+        b"a -1 [x >= 3]",
+        LineRefusal::Form(1, 3),
+    ),
+    ("minus zero for a number", b"n -0", LineRefusal::Form(1, 3)),
+    (
+        "minus zero for a hint",
+        b"n 1 0 -0",
+        LineRefusal::Form(1, 7),
+    ),
+    ("a plus", b"n +1", LineRefusal::Form(1, 3)),
+    ("a minus alone", b"n 1 -", LineRefusal::Form(1, 5)),
+    ("no blank before [", b"a 1[x >= 3]", LineRefusal::Form(1, 3)),
+    ("no [", b"a 1 x >= 3", LineRefusal::Form(1, 5)),
+    ("a keyword", b"a 1 [int >= 3]", LineRefusal::Form(1, 6)),
+    (
+        "a number for a name",
+        b"a 1 [3 >= x]",
+        LineRefusal::Form(1, 6),
+    ),
+    ("no comparison", b"a 1 [x > 3]", LineRefusal::Form(1, 8)),
+    (
+        "half a comparison more",
+        b"a 1 [x === 3]",
+        LineRefusal::Form(1, 10),
+    ),
+    (
+        "a CR in brackets",
+        b"a 1 [x\r>= 3]",
+        LineRefusal::Form(1, 7),
+    ),
+    (
+        "a name for a value",
+        b"a 1 [x >= y]",
+        LineRefusal::Form(1, 11),
+    ),
+    (
+        "a minus alone for a value",
+        b"a 1 [x >= - 3]",
+        LineRefusal::Form(1, 11),
+    ),
+    (
+        "more than a value",
+        b"a 1 [x >= 3y]",
+        LineRefusal::Form(1, 12),
+    ),
+    ("no value", b"a 1 [x >=", LineRefusal::Form(1, 10)),
+    ("no ]", b"a 1 [x >= 3 ", LineRefusal::Form(1, 13)),
+    ("more behind ]", b"a 1 [x >= 3]y", LineRefusal::Form(1, 13)),
+    (
+        "brackets for a literal",
+        b"n 1 [x >= 3]",
+        LineRefusal::Form(1, 5),
+    ),
+    ("no separator", b"i 1 2", LineRefusal::Form(1, 6)),
+    (
+        "a constraint for a premise",
+        b"i 1 c:1",
+        LineRefusal::Form(1, 5),
+    ),
+    ("two consequents", b"i 1 0 2 3", LineRefusal::Form(1, 9)),
+    (
+        "zero behind the consequent",
+        b"i 1 0 2 0",
+        LineRefusal::Form(1, 9),
+    ),
+    (
+        "zero behind the constraint",
+        b"i 1 0 c:1 0",
+        LineRefusal::Form(1, 11),
+    ),
+    ("no constraint number", b"i 1 0 c:", LineRefusal::Form(1, 7)),
+    (
+        "a name for a constraint",
+        b"i 1 0 c:x",
+        LineRefusal::Form(1, 7),
+    ),
+    (
+        "a negative constraint",
+        b"i 1 0 l:a c:-1",
+        LineRefusal::Form(1, 11),
+    ),
+    (
+        "two constraints",
+        b"i 1 0 c:1 l:a c:2",
+        LineRefusal::Form(1, 15),
+    ),
+    ("no label", b"i 1 0 l:", LineRefusal::Form(1, 7)),
+    (
+        "another byte in a label",
+        b"i 1 0 l:a-b",
+        LineRefusal::Form(1, 7),
+    ),
+];
+
+const NUMBERS: [Refused; 22] = [
+    ("zero for a number", b"n 0", LineRefusal::Number(1, 3)),
+    ("zeros for a number", b"a 00 x", LineRefusal::Number(1, 3)),
+    (
+        "one past the largest",
+        b"n 1000000000000000001",
+        LineRefusal::Number(1, 3),
+    ),
+    (
+        "one past it with zeros",
+        b"n 0001000000000000000001",
+        LineRefusal::Number(1, 3),
+    ),
+    (
+        "past 2^64",
+        b"n 18446744073709551617",
+        LineRefusal::Number(1, 3),
+    ),
+    ("minus zero", b"n 1 -0", LineRefusal::Number(1, 5)),
+    ("zeros for a literal", b"n 1 00", LineRefusal::Number(1, 5)),
+    (
+        "one below the least",
+        b"i 1 -1000000000000000001 0",
+        LineRefusal::Number(1, 5),
+    ),
+    ("zero for a hint", b"n 1 0 0", LineRefusal::Number(1, 7)),
+    (
+        "a hint past the largest",
+        b"n 1 0 9999999999999999999999",
+        LineRefusal::Number(1, 7),
+    ),
+    (
+        "zero for a consequent",
+        b"i 1 0 0",
+        LineRefusal::Number(1, 7),
+    ),
+    (
+        "zero for a constraint",
+        b"i 1 0 c:0",
+        LineRefusal::Number(1, 9),
+    ),
+    (
+        "a constraint past the largest",
+        b"i 1 0 c:1000000000000000001",
+        LineRefusal::Number(1, 9),
+    ),
+    ("zero for a claim", b"c 0", LineRefusal::Number(1, 3)),
+    (
+        "minus zero for a value",
+        b"a 1 [x >= -0]",
+        LineRefusal::Number(1, 11),
+    ),
+    (
+        "zeros for a value",
+        b"a 1 [x >= 00]",
+        LineRefusal::Number(1, 11),
+    ),
+    (
+        "the least of all for >=",
+        b"a 1 [x >= -1000000000000000000]",
+        LineRefusal::Number(1, 11),
+    ),
+    (
+        "past the largest for >=",
+        b"a 1 [x >= 1000000000000000001]",
+        LineRefusal::Number(1, 11),
+    ),
+    (
+        "the largest of all for <=",
+        b"a 1 [x <= 1000000000000000000]",
+        LineRefusal::Number(1, 11),
+    ),
+    (
+        "below the least for ==",
+        b"a 1 [x == -1000000000000000001]",
+        LineRefusal::Number(1, 11),
+    ),
+    (
+        "past the largest for !=",
+        b"a 1 [x != 1000000000000000001]",
+        LineRefusal::Number(1, 11),
+    ),
+    ("the first byte wins", b"n 00 x", LineRefusal::Number(1, 3)),
+];
+
+#[test]
+fn the_first_flaw(rt: HostRuntime) -> Result<(), Fail> {
+    for (name, text, refusal) in FORMS {
+        let fault = Some(LineFault::Refused(refusal));
+        assert_eq!(rt;
+            (name, bytewise(rt.alloc(), WIDE, text, &[])?),
+            (name, (0, fault))
+        );
+    }
+    for (name, text, refusal) in NUMBERS {
+        let fault = Some(LineFault::Refused(refusal));
+        assert_eq!(rt;
+            (name, bytewise(rt.alloc(), WIDE, text, &[])?),
+            (name, (0, fault))
+        );
+    }
+    Ok(())
+}
+
+/// The limits, a text, the lines before the end, and the refusal there.
+type Limited = (
+    u64,
+    u64,
+    &'static [u8],
+    &'static [(u64, Wanted)],
+    Option<LineRefusal>,
+);
+
+const LIMITED: [Limited; 16] = [
+    (7, 8, b"c UNSAT\n", &[(1, Wanted::Unsat)], None),
+    (7, 8, b"c UNSAT\r\n", &[], Some(LineRefusal::LogTooLong(1))),
+    (7, 99, b"c UNSAT\r\n", &[], Some(LineRefusal::TooLong(1))),
+    (7, 7, b"c UNSAT", &[(1, Wanted::Unsat)], None),
+    (7, 7, b"c UNSAT\n", &[], Some(LineRefusal::LogTooLong(1))),
+    (7, 99, b"        \n", &[], Some(LineRefusal::TooLong(1))),
+    (9, 99, b"n 1 -0", &[], Some(LineRefusal::Number(1, 5))),
+    (9, 99, b"d 1", &[], Some(LineRefusal::NotBuilt(1))),
+    (7, 99, b"c UNSAT\r", &[], Some(LineRefusal::TooLong(1))),
+    (8, 7, b"c UNSAT\r", &[], Some(LineRefusal::LogTooLong(1))),
+    (
+        9,
+        2,
+        b"\n\n\nc UNSAT",
+        &[],
+        Some(LineRefusal::LogTooLong(3)),
+    ),
+    (
+        9,
+        99,
+        b"c UNSAT\n \n  d x\n",
+        &[(1, Wanted::Unsat)],
+        Some(LineRefusal::NotBuilt(3)),
+    ),
+    (2, 99, b"d 1\n", &[], Some(LineRefusal::TooLong(1))),
+    (3, 99, b"xxxx", &[], Some(LineRefusal::TooLong(1))),
+    (9, 0, b"", &[], None),
+    (0, 3, b"\n\n\n", &[], None),
+];
+
+#[test]
+fn limits_before_flaws(rt: HostRuntime) -> Result<(), Fail> {
+    for (line, total, text, wanted, refusal) in LIMITED {
+        let limits = Limits { line, total };
+        let fault = refusal.map(LineFault::Refused);
+        assert_eq!(rt;
+            (text, bytewise(rt.alloc(), limits, text, wanted)?),
+            (text, (wanted.len(), fault))
+        );
+    }
+    Ok(())
+}
+
+#[test]
+fn lines_are_seen_once(rt: HostRuntime) -> Result<(), Fail> {
+    let mut reader = Reader::new(rt.alloc(), WIDE);
+    reader.feed(b"\n \nc UNS")?;
+    assert_eq!(rt; take(&mut reader, &[], 0), (0, None));
+    assert_eq!(rt; reader.lines_seen(), 2);
+    reader.feed(b"AT\n\n\nq")?;
+    assert_eq!(rt; take(&mut reader, &[(3, Wanted::Unsat)], 0), (1, None));
+    assert_eq!(rt; reader.lines_seen(), 5);
+    reader.end();
+    let fault = Some(LineFault::Refused(LineRefusal::Form(6, 1)));
+    assert_eq!(rt; take(&mut reader, &[], 0), (0, fault));
+    assert_eq!(rt; take(&mut reader, &[], 0), (0, fault));
+    assert_eq!(rt; reader.lines_seen(), 5);
+    Ok(())
+}
