@@ -1,0 +1,12 @@
+// A log as a person reads it: its steps with the names of their atoms.
+#![tactic(auto)]
+
+mod named;
+mod show;
+mod shown;
+mod spell;
+#[cfg(test)]
+mod tests;
+
+pub use show::show_log;
+pub use shown::{Refusal, Shown};
