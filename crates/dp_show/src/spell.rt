@@ -121,12 +121,12 @@ fn push_conjunction(
 ) -> Result<(), Memory>
     ensures { OnOk result (text.new.items ≡ text.old.items ++ spec.conjunction atoms.now.entries literals.now) }
 {
-    match literals {
-        [] => {
+    match literals.split_first() {
+        None => {
             text.extend_from_slice(b"true")?;
             Ok(())
         }
-        [first, others @ ..] => {
+        Some((first, others)) => {
             push_literal(text, atoms, *first)?;
             push_others(text, atoms, others)
         }
@@ -232,12 +232,22 @@ fn push_grounds(
 fn push_constraint(text: &mut Vec<u8>, number: u64, label: &Option<Name>) -> Result<(), Memory>
     ensures { OnOk result (text.new.items ≡ text.old.items ++ spec.grounds (Some number) label.now) }
 {
-    let field = format!(in *text.allocator(); " (c:{number}")?;
-    text.extend_from_slice(field.as_bytes())?;
-    if let Some(label) = label {
-        text.extend_from_slice(b" l:")?;
-        text.extend_from_slice(label.bytes())?;
+    match label {
+        Some(label) => push_both(text, number, label.bytes()),
+        None => {
+            let field = format!(in *text.allocator(); " (c:{number})")?;
+            text.extend_from_slice(field.as_bytes())?;
+            Ok(())
+        }
     }
+}
+
+fn push_both(text: &mut Vec<u8>, number: u64, label: &[u8]) -> Result<(), Memory>
+    ensures { OnOk result (text.new.items ≡ text.old.items ++ spec.grounds (Some number) (Some label.now)) }
+{
+    let front = format!(in *text.allocator(); " (c:{number} l:")?;
+    text.extend_from_slice(front.as_bytes())?;
+    text.extend_from_slice(label)?;
     text.push(b')')?;
     Ok(())
 }
