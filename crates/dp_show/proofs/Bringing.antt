@@ -1,10 +1,9 @@
 -- What each answer of the reader brings to what is shown.
-use Rattle.std.specs.Prelude.{◌≡◌, ℕ, ◌<◌, true, Option, Some, None, Result, Ok, Err, IfOk, List, [], ◌∷◌, ◌++◌, length}
-use Rattle.std.proofs.Common.{append_assoc, refl, sym, ◌∙◌, ap}
+use Rattle.std.specs.Prelude.{◌≡◌, ℕ, Option, Some, None, List, [], ◌++◌}
+use Rattle.std.proofs.Common.{append_assoc, sym, ◌∙◌, ap}
 use Rattle.dp_lines.specs.Lines.{Lines, no_lines, with_line}
 use Rattle.dp_lines.specs.Lines as lines
-use Rattle.dp_lines.specs.RawLines.{raw_lines}
-use Rattle.dp_lines.specs.Readers.{State, after, answer_of, left}
+use Rattle.dp_lines.specs.Readers.{State, left}
 use Rattle.dp_lines.specs.declared.line.Line.{Line}
 use Rattle.dp_lines.specs.declared.refusal.LineRefusal.{LineRefusal}
 use Rattle.dp_checker.specs.declared.refusal.Why.{Why}
@@ -14,7 +13,6 @@ use Rattle.dp_show.specs.Named.{Atoms}
 use Rattle.dp_show.specs.Showing.{refusal, shown_line}
 use Rattle.dp_show.specs.Showing as showing
 use Rattle.dp_show.proofs.Reading.{IsGiven}
-use Rattle.dp_show.specs.declared.show.Next.{Next}
 use Rattle.dp_show.specs.declared.shown.Refusal.{Refusal}
 use Rattle.dp_show.specs.declared.shown.Refusal.TheVariants.{Unread}
 use Rattle.dp_show.specs.declared.shown.Shown.{Shown}
@@ -39,19 +37,19 @@ brings_line None s end n line atoms now_atoms text now_text g h =
     let later = left end in
     let rest = shown_lines (showing.after atoms line) later.given later.refusal in
     let whole : shown_from text atoms s ≡ led_by text (led_by (shown_line atoms line) rest) =
-        from_lines text atoms s (with_line n line later) g.lines ∙ ap (λ (w : Option Why). led_by text (shown_unless w n line (shown_line atoms line) rest)) h.0 in
+    from_lines text atoms s (with_line n line later) g.lines ∙ ap (λ (w : Option Why). led_by text (shown_unless w n line (shown_line atoms line) rest)) h.0 in
     let now : shown_from now_text now_atoms end ≡ led_by (text ++ shown_line atoms line) rest =
-        ap (λ (t : List ℕ). led_by t (shown_lines now_atoms later.given later.refusal)) h.2
-        ∙ ap (λ (a : Atoms). led_by (text ++ shown_line atoms line) (shown_lines a later.given later.refusal)) h.1 in
+    ap (λ (t : List ℕ). led_by t (shown_lines now_atoms later.given later.refusal)) h.2
+    ∙ ap (λ (a : Atoms). led_by (text ++ shown_line atoms line) (shown_lines a later.given later.refusal)) h.1 in
     (now ∙ led_twice text (shown_line atoms line) rest ∙ sym whole, g.fewer)
 brings_line (Some r) s end n line atoms now_atoms text now_text g (why, e, is, same) =
     let later = left end in
     let rest = shown_lines (showing.after atoms line) later.given later.refusal in
     let whole : shown_from text atoms s ≡ record { steps = text ++ []; refusal = Some (refused n line why) } =
-        from_lines text atoms s (with_line n line later) g.lines ∙ ap (λ (w : Option Why). led_by text (shown_unless w n line (shown_line atoms line) rest)) e in
+    from_lines text atoms s (with_line n line later) g.lines ∙ ap (λ (w : Option Why). led_by text (shown_unless w n line (shown_line atoms line) rest)) e in
     let told : record { steps = now_text; refusal = Some r } ≡ record { steps = text ++ []; refusal = Some (refused n line why) } =
-        ap (λ (t : List ℕ). record { steps = t; refusal = Some r }) (same ∙ sym (append-nil text))
-        ∙ ap (λ (q : Refusal). record { steps = text ++ []; refusal = Some q }) is in
+    ap (λ (t : List ℕ). record { steps = t; refusal = Some r }) (same ∙ sym (append-nil text))
+    ∙ ap (λ (q : Refusal). record { steps = text ++ []; refusal = Some q }) is in
     told ∙ sym whole
 
 -- where nothing is left, all is shown

@@ -48,7 +48,7 @@ ask_counts s none =
     let step = step_from s.limits s.ended s.passed s.count 0 (raw_lines s.held) in
     let behind = no_more step.used s.held in
     let moved : s.count + length (raw_lines s.held) ≡ step.count + length (raw_lines (drop step.used s.held)) =
-        sym (ap (λ n. s.count + n) before) ∙ k ∙ ap (λ n. step.count + n) behind in
+    sym (ap (λ n. s.count + n) before) ∙ k ∙ ap (λ n. step.count + n) behind in
     moved ∙ sym (ap (λ (t : Step). t.count + length (raw_lines (drop t.used s.held))) e)
 
 abbrev IfLine : First → Type 0 → Type 0
@@ -93,7 +93,7 @@ fewer_held s n line none e =
     let step = step_from s.limits s.ended s.passed s.count 0 (raw_lines s.held) in
     let same = asked s s.refusal refl none in
     let more : s.count < (step_of s).count = line_first (step_of s).first (step_of s).count n line (s.count < (step_of s).count) e
-        (subst (λ (t : Step). IfLine t.first (s.count < t.count)) (sym same) (grows s.limits s.ended s.passed s.count 0 (raw_lines s.held))) in
+    (subst (λ (t : Step). IfLine t.first (s.count < t.count)) (sym same) (grows s.limits s.ended s.passed s.count 0 (raw_lines s.held))) in
     let k = ask_counts s none in omega (arith, k, more)
 
 -- ---- by the answer
@@ -115,7 +115,7 @@ given_line r s now n line none is h =
     let k = subst (λ (x : Result (Option (ℕ × Line)) LineFault). Says x s now) is h in
     record {
       lines = left_now s now (with_line n line) k.told;
-      fewer = subst (λ (t : State). length (raw_lines t.held) < length (raw_lines s.held)) (sym k.passed) (fewer_held s n line none k.answered)
+      fewer = subst (λ (t : State). length (raw_lines t.held) < length (raw_lines s.held)) (sym k.passed) (fewer_held s n line none k.answered);
     }
 
 -- nothing is left

@@ -1,5 +1,5 @@
 -- What is shown of the rest of a log, behind the lines that were shown.
-use Rattle.std.specs.Prelude.{◌≡◌, ℕ, ◌++◌, ◌<◌, Option, Some, None, List, [], length, true}
+use Rattle.std.specs.Prelude.{◌≡◌, ℕ, ◌++◌, ◌<◌, Option, Some, None, List, length, true}
 use Rattle.dp_lines.specs.RawLines.{raw_lines}
 use Rattle.dp_lines.specs.Readers.{State, left}
 use Rattle.dp_checker.specs.declared.refusal.Why.{Why}

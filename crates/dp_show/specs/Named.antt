@@ -1,5 +1,5 @@
 -- The atoms that a log's lines define, by their names, and the literals that stand for them.
-use Rattle.std.specs.Prelude.{ℕ, ◌+◌, Option, Some, None, is_some, List, [], ◌∷◌, ◌++◌, if◌then◌else◌, nat_eq, ℤ, pos, negsuc}
+use Rattle.std.specs.Prelude.{ℕ, ◌+◌, Option, Some, None, is_some, List, [], ◌∷◌, if◌then◌else◌, nat_eq, ℤ, pos, negsuc}
 use Rattle.std.specs.Map.{lookup}
 use Rattle.std.specs.Option.{option_map}
 use Rattle.dp_domain.specs.Atoms.{beyond, opposite}

@@ -11,7 +11,7 @@ use Rattle.dp_lines.specs.declared.line.Claim.TheVariants.{Unsat, Bound}
 use Rattle.dp_checker.specs.Judged.{naming, unless, with_last}
 use Rattle.dp_checker.specs.declared.refusal.Why.{Why}
 use Rattle.dp_checker.specs.declared.refusal.Why.TheVariants.{AtomTwice, UnknownAtom}
-use Rattle.dp_show.specs.Named.{Atoms, Named, first_undefined, found, literal_text}
+use Rattle.dp_show.specs.Named.{Atoms, first_undefined, found, literal_text}
 
 -- ---- the text of a line
 

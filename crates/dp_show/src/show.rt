@@ -137,7 +137,8 @@ fn refusal_of(atoms: &IndexMap<u64, NamedAtom>, line: &Line) -> Option<Why>
             ..
         } => unknown(first_undefined_of(atoms, premises.as_slice(), *consequent)),
         Line::Nogood {
-            atoms: literals, ..
+            atoms: literals,
+            ..
         } => unknown(first_undefined(atoms, literals.as_slice())),
         Line::Delete { .. } => None,
         Line::Conclude(Claim::Unsat) => None,

@@ -32,5 +32,5 @@ defined atoms now line id name op value atom is made added =
 pub returns-in-Atom : goal.returns-in-Atom
 returns-in-Atom c =
     let made = c.new.ensures ∙ ap (λ (z : ℤ). record { name = c.in-Atom.name; op = c.in-Atom.op; value = z })
-        (nameable_read c.in-Atom.op c.in-Atom.value (value_named c.args.line _ _ _ _ c.in-Atom.is c.requires.allowed)) in
+    (nameable_read c.in-Atom.op c.in-Atom.value (value_named c.args.line _ _ _ _ c.in-Atom.is c.requires.allowed)) in
     on_ok c.add_atom.result _ _ (λ h. defined c.args.atoms.now.entries _ c.args.line _ _ _ _ c.new.result c.in-Atom.is made h) c.add_atom.ensures

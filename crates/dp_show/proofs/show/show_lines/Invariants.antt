@@ -1,4 +1,4 @@
-use Rattle.std.proofs.Common.{◌≡◌, List, [], length}
+use Rattle.std.proofs.Common.{◌≡◌, [], length}
 use Rattle.dp_lines.specs.RawLines.{raw_lines}
 use Rattle.dp_show.specs.Left.{IsFed, shown_from}
 use Rattle.dp_show.proofs.show.show_lines.Given as goal
