@@ -77,10 +77,11 @@ refusal atoms line = naming UnknownAtom (first_undefined atoms (literals line))
 
 -- ---- the atoms behind a line
 
--- with the atom that the line defines
+-- with one more atom
 abbrev pub with_atom : Atoms → ℕ → List ℕ → Op → ℤ → Atoms
 with_atom atoms id name op value = atoms ++ (id, record { name = name; op = op; value = value }) ∷ []
 
+-- with the atom that the line defines, if it defines one
 abbrev pub after : Atoms → Line → Atoms
 after atoms (Atom id name op value) = with_atom atoms id name op value
 after atoms (Inference id premises consequent constraint label) = atoms

@@ -1,6 +1,7 @@
 // A log as a person reads it: its steps with the names of their atoms.
 #![tactic(auto)]
 
+pub mod laws;
 mod named;
 mod show;
 mod shown;

@@ -29,7 +29,7 @@ const LIMITS: Limits = Limits {
 /// number twice, or names an atom that is not defined.
 pub fn show_log(alloc: Global, log: &[u8]) -> Result<Shown, Memory>
     requires { length log.now ≤ 2 ^ 62 }
-    ensures { IfOk result (λ shown. shown ≡ shown_log log.now) }
+    ensures shown { IfOk result (λ shown. shown ≡ shown_log log.now) }
 {
     let mut reader = Reader::new(alloc, LIMITS);
     reader.feed(log)?;
