@@ -1,0 +1,4 @@
+pub mod Answers
+pub mod Literals
+pub mod Reading
+pub mod Bringing

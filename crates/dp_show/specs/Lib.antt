@@ -1,0 +1,4 @@
+pub mod Named
+pub mod Showing
+pub mod Logs
+pub mod Left

@@ -1,0 +1,13 @@
+// A log as a person reads it: its steps with the names of their atoms.
+#![tactic(auto)]
+
+pub mod laws;
+mod named;
+mod show;
+mod shown;
+mod spell;
+#[cfg(test)]
+mod tests;
+
+pub use show::show_log;
+pub use shown::{Refusal, Shown};
