@@ -22,5 +22,4 @@ pub use lists::{Literals, Numbers};
 pub use readback::{line_read_back, lines_read_back, log_read_back};
 pub use reader::Reader;
 pub use refusal::{Limits, LineFault, LineRefusal};
-pub use text::line_text;
 pub use text::{line_text, push_atom_text};
