@@ -1,0 +1,4 @@
+pub mod Args
+pub mod Globals
+pub mod Meaning
+pub mod Satisfies
