@@ -1,0 +1,7 @@
+pub mod Small
+pub mod Variables
+pub mod Facts
+pub mod Sums
+pub mod Sides
+pub mod Recipe
+pub mod Problem
