@@ -1,0 +1,4 @@
+pub mod Products
+pub mod SumLaws
+pub mod SmallLaws
+pub mod SideLaws
