@@ -2,3 +2,5 @@ pub mod Products
 pub mod SumLaws
 pub mod SmallLaws
 pub mod SideLaws
+pub mod BoolRows
+pub mod RecipeLaws

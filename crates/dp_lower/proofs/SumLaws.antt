@@ -85,7 +85,7 @@ value-sum_of s ts = value-plus_all s no_sum ts ∙ regroup (worth s ts)
     regroup : (x : ℤ) → (pos 0 +ℤ pos 0) +ℤ x ≡ x
     regroup x = omega (arith, ints)
 
-const_value : (s : ℕ → ℤ) (t : Term) → IsConst t → number_in t ≡ term_at s t
+pub const_value : (s : ℕ → ℤ) (t : Term) → IsConst t → number_in t ≡ term_at s t
 const_value s (Const v) const = refl
 const_value s (Var x) const = absurd const
 
