@@ -4,3 +4,4 @@ pub mod SmallLaws
 pub mod SideLaws
 pub mod BoolRows
 pub mod RecipeLaws
+pub mod DomainLaws
