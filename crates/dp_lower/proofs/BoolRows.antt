@@ -5,7 +5,7 @@ use Rattle.std.specs.List.{list_all, list_any}
 use Rattle.dp_domain.specs.Terms.{term_at}
 use Rattle.dp_domain.specs.declared.term.Term.{Term}
 use Rattle.fz_sat.specs.Meaning.{iff, is_on}
-use Rattle.dp_lower.specs.Recipe.{all_rows, any_rows, clause_row, clause_rows, other_rows, rows_by, same_rows}
+use Rattle.dp_lower.specs.Recipe.{all_rows, any_rows, clause_row, clause_rows, rows_by}
 use Rattle.dp_lower.specs.declared.literal.Literal.{Literal}
 use Rattle.dp_lower.specs.declared.literal.Literal.TheVariants.{Holds, Fails}
 use Rattle.dp_lower.proofs.SideLaws.{is_so, not_all}

@@ -1,11 +1,11 @@
 -- An assignment lies in the initial domains exactly where it keeps every declaration.
-use Rattle.std.proofs.Common.{◌≡◌, ℕ, suc, ◌+◌, ◌<◌, ◌≤◌, Bool, true, false, List, [], ◌∷◌, length, map, filter, get_or, Option, Some, None, ℤ, pos, ◌≤ℤ◌, refl, sym, ◌∙◌, ap, subst, inl, inr, arith}
+use Rattle.std.proofs.Common.{◌≡◌, ℕ, suc, ◌+◌, ◌<◌, ◌≤◌, Bool, true, false, List, [], ◌∷◌, length, filter, Option, Some, None, ℤ, pos, refl, sym, ◌∙◌, ap, subst, inl, inr, arith}
 use Rattle.std.specs.Prelude.{not, ◌&&◌, ◌||◌, ◌⊎◌, ◌==◌, if◌then◌else◌, IsTrue, MatchOption, int_le, is_none, slice_get}
-use Rattle.std.specs.List.{list_all, list_any, range_with_len}
+use Rattle.std.specs.List.{list_any}
 use Rattle.std.specs.Option.{option_map_or}
 use Rattle.std.specs.Ordering.{int_eq}
 use Rattle.std.proofs.lemmas.Int.{ints}
-use Rattle.std.proofs.lemmas.Bool.{and_from, and_parts, both_ways, cases_eq, cases_lt, eq-eqb, eqb-true, not-true, or_cases, or_left, or_right}
+use Rattle.std.proofs.lemmas.Bool.{and_parts, both_ways, cases_eq, cases_lt, eq-eqb, eqb-true, not-true, or_cases, or_right}
 use Rattle.std.proofs.lemmas.Bool.Decides.{Decides-int_eq}
 use Rattle.std.proofs.lemmas.List.FromFn.{get_or-map-range_with_len, length-map-range_with_len}
 use Rattle.dp_base.specs.Lists.{Among, Each}
@@ -204,3 +204,136 @@ small_kept items s x kind value own small bounded kept =
     let bounded' : MatchOption value (IsBounding kind) (λ b. IsSmallConst (term_of items b)) =
     subst (λ (o : Option ℕ). MatchOption o (MatchOption value (IsBounding kind) (λ b. IsSmallConst (term_of items b))) (λ y. Unit {0})) own bounded in
     small_defined items s x kind value small bounded' both.0 both.1
+
+-- ---- one variable of a state
+
+-- the variable's values at first
+pub values-domains_of : (items : List Item) (x : ℕ) → x < count_variables items → values (domains_of items) x ≡ domain_of items x
+values-domains_of items x h = get_or-map-range_with_len (domain_of items) 0 (count_variables items) x x [] h (omega arith)
+
+pub length-domains_of : (items : List Item) → length (domains_of items) ≡ count_variables items
+length-domains_of items = length-map-range_with_len (domain_of items) 0 (count_variables items)
+
+-- the assignment gives the variable a number within ±10^9 that every item allows
+pub record IsAllowed (items : List Item) (s : ℕ → ℤ) (x : ℕ) : Type 0 where
+  pub small : IsSmall (s x)
+  pub allowed : may_be items x (s x) ≡ true
+
+-- the assignment lies in the initial domains exactly where each variable is allowed its value
+pub allowed_within : (items : List Item) (s : ℕ → ℤ) → LiesIn s (domains_of items) → (x : ℕ) → x < count_variables items → IsAllowed items s x
+allowed_within items s lies x h =
+    let here : Among (s x) (values (domains_of items) x) = lies x (subst (λ n. x < n) (sym (length-domains_of items)) h) in
+    let r = passing_only (may_be items x) (s x) (subst (λ vs. Among (s x) vs) (values-domains_of items x h) here) in
+    record { small = r.0; allowed = r.1 }
+
+pub within_allowed : (items : List Item) (s : ℕ → ℤ) → ((x : ℕ) → x < count_variables items → IsAllowed items s x) → LiesIn s (domains_of items)
+within_allowed items s each x below =
+    let h : x < count_variables items = subst (λ n. x < n) (length-domains_of items) below in
+    let allowed = each x h in
+    subst (λ vs. Among (s x) vs) (sym (values-domains_of items x h)) (passing_all (may_be items x) (s x) allowed.small allowed.allowed)
+
+-- ---- one item
+
+-- what a model's declarations have
+pub record AreDeclared (items : List Item) : Type 0 where
+  pub numbered : AreNumbered items 0 items
+  pub declared : Each (IsDeclared items) items
+
+below_count : (items : List Item) (name : List ℕ) (kind : VarType) (output : Bool) (value : Option Basic) (var : ℕ) → AreDeclared items → Among (item.Var name kind output value var) items → var < count_variables items
+below_count items name kind output value var h here = let k : var < 0 + count_variables items = var_below items 0 items name kind output value var h.numbered here in omega arith
+
+-- a declaration is kept exactly where the domain's test of it passes
+kept_fits : (items : List Item) (s : ℕ → ℤ) (name : List ℕ) (kind : VarType) (output : Bool) (value : Option Basic) (var : ℕ) → AreDeclared items → Among (item.Var name kind output value var) items →
+    (is_of_type kind (s var) && option_map_or (λ b. fits (s var) (term_of items b)) value true) ≡ is_kept items s (item.Var name kind output value var)
+kept_fits items s name kind output value var h here =
+    ap (λ c. is_of_type kind (s var) && c) (fits_defined items s var value (λ y e. alias_number items 0 items name kind output value var y h.numbered here e))
+
+not_same : (x : ℕ) (b : Bool) → (not (x == x) || b) ≡ b
+not_same x b = rw (eq-eqb x x refl) refl
+
+var_kept : (items : List Item) (s : ℕ → ℤ) (name : List ℕ) (kind : VarType) (output : Bool) (value : Option Basic) (var : ℕ) → AreDeclared items → Among (item.Var name kind output value var) items →
+    IsAllowed items s var → is_kept items s (item.Var name kind output value var) ≡ true
+var_kept items s name kind output value var h here allowed =
+    sym (kept_fits items s name kind output value var h here)
+    ∙ sym (not_same var (is_of_type kind (s var) && option_map_or (λ b. fits (s var) (term_of items b)) value true))
+    ∙ list_all-at (allows items var (s var)) items (item.Var name kind output value var) allowed.allowed here
+
+element_kept : (items : List Item) (s : ℕ → ℤ) (name : List ℕ) (kind : VarType) (output : Option (List (ℤ × ℤ))) (elements : List Basic) (b : Basic) (t : Term) → term_of items b ≡ t → Among b elements →
+    IsElement (count_variables items) kind t → Among (item.Vars name kind output elements) items → ((x : ℕ) → x < count_variables items → IsAllowed items s x) → is_of_type kind (term_at s t) ≡ true
+element_kept items s name kind output elements b (Const v) e here element there each = element
+element_kept items s name kind output elements b (Var y) e here element there each =
+    let allowed = list_all-at (allows items y (s y)) items (item.Vars name kind output elements) (each y element).allowed there in
+    let is : is_variable y (term_of items b) ≡ true = ap (is_variable y) e ∙ eq-eqb y y refl in
+    let found = list_any-at (λ c. is_variable y (term_of items c)) elements b here is in
+    elim (or_cases (not (list_any (λ c. is_variable y (term_of items c)) elements)) (is_of_type kind (s y)) allowed) [
+      | inl none ↦ absurd (both_ways (list_any (λ c. is_variable y (term_of items c)) elements) (not-true (list_any (λ c. is_variable y (term_of items c)) elements) none) found)
+      | inr typed ↦ typed
+    ]
+
+-- where each variable is allowed its value, each item is kept
+item_kept : (items : List Item) (s : ℕ → ℤ) → AreDeclared items → ((x : ℕ) → x < count_variables items → IsAllowed items s x) → (i : Item) → Among i items → is_kept items s i ≡ true
+item_kept items s h each (item.Int name value) here = refl
+item_kept items s h each (item.Bool name value) here = refl
+item_kept items s h each (item.Set name set) here = refl
+item_kept items s h each (item.Consts name bools elements) here = refl
+item_kept items s h each (item.Var name kind output value var) here =
+    var_kept items s name kind output value var h here (each var (below_count items name kind output value var h here))
+item_kept items s h each (item.Vars name kind output elements) here =
+    let declared = Each-among (IsDeclared items) items h.declared (item.Vars name kind output elements) here in
+    list_all-from (λ b. is_of_type kind (value_of items s b)) elements
+    (λ b among. element_kept items s name kind output elements b (term_of items b) refl among (Each-among (λ c. IsElement (count_variables items) kind (term_of items c)) elements declared.1 b among) here each)
+
+-- ---- and back
+
+var_allowed : (items : List Item) (s : ℕ → ℤ) (x : ℕ) (name : List ℕ) (kind : VarType) (output : Bool) (value : Option Basic) (var : ℕ) → AreDeclared items → Among (item.Var name kind output value var) items →
+    is_kept items s (item.Var name kind output value var) ≡ true → (b : Bool) → (var == x) ≡ b → allows items x (s x) (item.Var name kind output value var) ≡ true
+var_allowed items s x name kind output value var h here kept false e = rw e refl
+var_allowed items s x name kind output value var h here kept true e =
+    subst (λ y. allows items y (s y) (item.Var name kind output value var) ≡ true) (eqb-true var x e)
+    (not_same var (is_of_type kind (s var) && option_map_or (λ b. fits (s var) (term_of items b)) value true) ∙ kept_fits items s name kind output value var h here ∙ kept)
+
+value_at_variable : (s : ℕ → ℤ) (x : ℕ) (t : Term) → is_variable x t ≡ true → term_at s t ≡ s x
+value_at_variable s x (Var y) e = ap s (eqb-true y x e)
+value_at_variable s x (Const v) e = absurd (both_ways false refl e)
+
+vars_allowed : (items : List Item) (s : ℕ → ℤ) (x : ℕ) (name : List ℕ) (kind : VarType) (output : Option (List (ℤ × ℤ))) (elements : List Basic) →
+    is_kept items s (item.Vars name kind output elements) ≡ true → (b : Bool) → list_any (λ c. is_variable x (term_of items c)) elements ≡ b → allows items x (s x) (item.Vars name kind output elements) ≡ true
+vars_allowed items s x name kind output elements kept false e = rw e refl
+vars_allowed items s x name kind output elements kept true e =
+    let r = list_any-some (λ c. is_variable x (term_of items c)) elements e in
+    let typed = list_all-at (λ b. is_of_type kind (value_of items s b)) elements r.0 kept r.1 in
+    or_right (not (list_any (λ c. is_variable x (term_of items c)) elements)) (is_of_type kind (s x)) (ap (is_of_type kind) (sym (value_at_variable s x (term_of items r.0) r.2)) ∙ typed)
+
+item_allows : (items : List Item) (s : ℕ → ℤ) (x : ℕ) → AreDeclared items → (i : Item) → Among i items → is_kept items s i ≡ true → allows items x (s x) i ≡ true
+item_allows items s x h (item.Int name value) here kept = refl
+item_allows items s x h (item.Bool name value) here kept = refl
+item_allows items s x h (item.Set name set) here kept = refl
+item_allows items s x h (item.Consts name bools elements) here kept = refl
+item_allows items s x h (item.Var name kind output value var) here kept = var_allowed items s x name kind output value var h here kept (var == x) refl
+item_allows items s x h (item.Vars name kind output elements) here kept = vars_allowed items s x name kind output elements kept (list_any (λ c. is_variable x (term_of items c)) elements) refl
+
+small_own : (items : List Item) (s : ℕ → ℤ) (x : ℕ) → AreDeclared items → Each (λ i. IsTrue (is_kept items s i)) items → Declares items items x → IsSmall (s x)
+small_own items s x h kept d =
+    let i = item.Var d.name d.kind d.output d.value x in
+    let declared = Each-among (IsDeclared items) items h.declared i d.here in
+    small_kept items s x d.kind d.value d.own declared.0 declared.1 (Each-among (λ j. IsTrue (is_kept items s j)) items kept i d.here)
+
+variable_allowed : (items : List Item) (s : ℕ → ℤ) → AreDeclared items → Each (λ i. IsTrue (is_kept items s i)) items → (x : ℕ) → x < count_variables items → IsAllowed items s x
+variable_allowed items s h kept x below = record {
+  small = small_own items s x h kept (own_item items 0 items x h.numbered (omega arith) (omega arith));
+  allowed = list_all-from (allows items x (s x)) items (λ i here. item_allows items s x h i here (Each-among (λ j. IsTrue (is_kept items s j)) items kept i here));
+}
+
+-- ---- the law
+
+-- where it lies in the initial domains it keeps every declaration
+pub kept_within : (items : List Item) (s : ℕ → ℤ) → AreDeclared items → LiesIn s (domains_of items) → Each (λ i. IsTrue (is_kept items s i)) items
+kept_within items s h lies = Each-from_among (λ i. IsTrue (is_kept items s i)) items (item_kept items s h (allowed_within items s lies))
+
+-- and where it keeps every declaration it lies there
+pub within_kept : (items : List Item) (s : ℕ → ℤ) → AreDeclared items → Each (λ i. IsTrue (is_kept items s i)) items → LiesIn s (domains_of items)
+within_kept items s h kept = within_allowed items s (variable_allowed items s h kept)
+
+-- there each variable is within ±10^9
+pub small_within : (items : List Item) (s : ℕ → ℤ) → LiesIn s (domains_of items) → (x : ℕ) → x < count_variables items → IsSmall (s x)
+small_within items s lies x below = (allowed_within items s lies x below).small

@@ -5,3 +5,4 @@ pub mod SideLaws
 pub mod BoolRows
 pub mod RecipeLaws
 pub mod DomainLaws
+pub mod SolutionLaws

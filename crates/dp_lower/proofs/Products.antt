@@ -1,7 +1,7 @@
 -- Products and sums of integers.
-use Rattle.std.proofs.Common.{◌≡◌, ℕ, zero, suc, ℤ, pos, neg_ℤ, ◌+ℤ◌, ◌-ℤ◌, ◌*ℤ◌, refl, sym, ◌∙◌, ap, arith}
+use Rattle.std.proofs.Common.{◌≡◌, ℤ, pos, neg_ℤ, ◌+ℤ◌, ◌-ℤ◌, ◌*ℤ◌, sym, ◌∙◌, ap, arith}
 use Rattle.std.proofs.lemmas.Int.{ints}
-use Rattle.std.proofs.Math.IntN.{+ℤ_assoc, +ℤ_idr, +ℤ_invl, +ℤ_one, -ℤ_one, *ℤ_comm, suc_ℤ-*ℤ, pred_ℤ-*ℤ, suc_ℤ, pred_ℤ, zero-*ℤ, ℤ_ind}
+use Rattle.std.proofs.Math.IntN.{+ℤ_assoc, +ℤ_idr, +ℤ_invl, +ℤ_one, -ℤ_one, suc_ℤ-*ℤ, pred_ℤ-*ℤ, zero-*ℤ, ℤ_ind}
 
 one_more : (b v : ℤ) → (b +ℤ pos 1) *ℤ v ≡ (b *ℤ v) +ℤ v
 one_more b v = ap (λ c. c *ℤ v) (+ℤ_one b) ∙ suc_ℤ-*ℤ b v

@@ -1,8 +1,7 @@
 -- What the parts of each kind of constraint say: one line for each row of the table.
-use Rattle.std.proofs.Common.{◌≡◌, ℕ, ◌<◌, Bool, true, false, List, [], ◌∷◌, map, ℤ, pos, negsuc, neg_ℤ, ◌+ℤ◌, ◌-ℤ◌, ◌*ℤ◌, ◌≤ℤ◌, refl, sym, ◌∙◌, ap, arith}
-use Rattle.std.specs.Prelude.{nat_le, not, ◌&&◌, ◌||◌, if◌then◌else◌, int_le, int_lt}
-use Rattle.std.specs.Bool.{Decides}
-use Rattle.std.specs.List.{list_all, list_any}
+use Rattle.std.proofs.Common.{◌≡◌, ℕ, Bool, true, false, List, [], ◌∷◌, map, ℤ, pos, negsuc, ◌+ℤ◌, ◌-ℤ◌, ◌*ℤ◌, ◌≤ℤ◌, refl, sym, ◌∙◌, ap, arith}
+use Rattle.std.specs.Prelude.{nat_le, not, ◌&&◌, ◌||◌, int_le, int_lt}
+use Rattle.std.specs.List.{list_all}
 use Rattle.std.specs.Ordering.{int_eq}
 use Rattle.std.proofs.lemmas.Int.{ints}
 use Rattle.std.proofs.lemmas.Bool.{both_ways}
@@ -13,26 +12,22 @@ use Rattle.dp_domain.specs.Sets.{IsSmall}
 use Rattle.dp_domain.specs.Terms.{term_at}
 use Rattle.dp_domain.specs.declared.term.Term.{Term}
 use Rattle.dp_domain.specs.declared.term.Term.TheVariants.{Var, Const}
-use Rattle.dp_domain.proofs.AtomLaws.{le-from_test, lt-from_test, test-from_le, test-from_lt}
+use Rattle.dp_domain.proofs.AtomLaws.{le-from_test, test-from_le, test-from_lt}
 use Rattle.dp_parts.specs.declared.part.Part.{Part}
-use Rattle.fz_model.specs.Models.{count_variables}
-use Rattle.fz_model.specs.Table.{args_of}
 use Rattle.fz_model.specs.declared.kinds.ConstraintKind.{ConstraintKind}
 use Rattle.fz_model.specs.declared.kinds.ConstraintKind.TheVariants as of
-use Rattle.fz_model.specs.declared.model.Expr.{Expr}
-use Rattle.fz_model.specs.declared.model.Item.{Item}
 use Rattle.fz_model.specs.declared.model.SetText.{SetText}
 use Rattle.fz_sat.specs.Args.{is_in_set}
 use Rattle.fz_sat.specs.Globals.{weighted_sum}
-use Rattle.fz_sat.specs.Meaning.{Given, given, holds, iff, is_on}
-use Rattle.dp_lower.specs.Facts.{AreFit, IsConst, IsIntTerm, IsSmallConst}
-use Rattle.dp_lower.specs.Recipe.{Args, all_rows, any_rows, args_in, clause_row, clause_rows, difference, excess, is_built, limit, linear_sum, member, member_reified, other_rows, recipe, rows_by, same_rows, xor_rows}
+use Rattle.fz_sat.specs.Meaning.{Given, holds, iff, is_on}
+use Rattle.dp_lower.specs.Facts.{IsConst, IsSmallConst}
+use Rattle.dp_lower.specs.Recipe.{Args, all_rows, any_rows, clause_row, clause_rows, difference, excess, is_built, limit, linear_sum, member, member_reified, other_rows, recipe, rows_by, same_rows, xor_rows}
 use Rattle.dp_lower.specs.Sides.{Side, is_above, is_at_most, is_equal, is_member, is_no_member, is_other}
-use Rattle.dp_lower.specs.Sums.{Sum, number_in, sum_of, weighted}
+use Rattle.dp_lower.specs.Sums.{weighted}
 use Rattle.dp_lower.specs.declared.literal.Literal.TheVariants.{Holds, Fails}
 use Rattle.dp_lower.proofs.BoolRows.{all_rows_say, any_rows_say, clause_rows_say, clause_says, le_row, lt_row, not_le_row, not_lt_row, not_other_row, other_row, rows_by_say, same_row}
 use Rattle.dp_lower.proofs.SideLaws.{Say, SaysSide, above_says, always_says, at_most_says, equal_says, nogood_says, nogoods_say, not_all, other_says, passes_says, reified_says}
-use Rattle.dp_lower.proofs.SumLaws.{const_value, value-sum_of, value_at, worth, worth-weighted}
+use Rattle.dp_lower.proofs.SumLaws.{const_value, value-sum_of, value_at, worth-weighted}
 
 -- ---- sums
 

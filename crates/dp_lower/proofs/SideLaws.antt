@@ -1,13 +1,13 @@
 -- What the parts of a side say: one law for each way to build them, an equation of tests.
-use Rattle.std.proofs.Common.{◌≡◌, ℕ, Bool, true, false, List, [], ◌∷◌, ◌++◌, map, filter, Option, Some, None, ℤ, pos, neg_ℤ, ◌+ℤ◌, ◌-ℤ◌, ◌≤ℤ◌, refl, sym, ◌∙◌, ap, subst, inl, inr, arith}
-use Rattle.std.specs.Prelude.{not, ◌&&◌, ◌||◌, ◌⊎◌, if◌then◌else◌, int_le}
+use Rattle.std.proofs.Common.{◌≡◌, ℕ, Bool, true, false, List, [], ◌∷◌, ◌++◌, filter, Option, Some, None, ℤ, pos, neg_ℤ, ◌+ℤ◌, ◌-ℤ◌, ◌≤ℤ◌, refl, sym, ◌∙◌, ap, arith}
+use Rattle.std.specs.Prelude.{not, ◌&&◌, ◌||◌, int_le}
 use Rattle.std.specs.Bool.{Decides}
 use Rattle.std.specs.List.{flat_map, list_all, list_any}
 use Rattle.std.specs.Ordering.{int_eq}
 use Rattle.std.proofs.lemmas.Int.{ints}
-use Rattle.std.proofs.lemmas.Bool.{and_cases, and_from, and_parts, both_ways, false_from_ne_true, not-false, not-true, not_from_false, or_cases, or_left, or_parts, or_right}
-use Rattle.std.proofs.lemmas.Bool.Decides.{Decides-and, Decides-at, Decides-int_eq, Decides-like, Decides-or, same_from_decides}
-use Rattle.dp_base.specs.Lists.{Among, Each}
+use Rattle.std.proofs.lemmas.Bool.{and_from, and_parts, both_ways, false_from_ne_true, not-false, not-true, not_from_false, or_parts}
+use Rattle.std.proofs.lemmas.Bool.Decides.{Decides-at, Decides-int_eq, Decides-or, same_from_decides}
+use Rattle.dp_base.specs.Lists.{Each}
 use Rattle.dp_base.proofs.Lists.{Each-append, Each-append_parts, list_all-fails, list_all-not, list_any-some}
 use Rattle.dp_domain.specs.Atoms.{Atomic, meets}
 use Rattle.dp_domain.specs.Conditions.{Fails}
@@ -22,10 +22,8 @@ use Rattle.dp_parts.specs.declared.part.Part.TheVariants.{Nogood, Within}
 use Rattle.dp_rule_clause.specs.Nogoods.{MeetsNogood, each_once}
 use Rattle.dp_rule_clause.proofs.AtomSteps.{once_same}
 use Rattle.dp_rule_linear.specs.Forms.{sum_at}
-use Rattle.fz_model.specs.declared.model.SetText.{SetText}
-use Rattle.fz_sat.specs.Args.{is_in_set}
 use Rattle.fz_sat.specs.Meaning.{iff, is_on}
-use Rattle.dp_lower.specs.Sides.{Side, always, atoms_of, is_above, is_at_most, is_equal, is_member, is_no_member, is_other, is_refuted, nogood, nogoods, off, on, passes, reified}
+use Rattle.dp_lower.specs.Sides.{Side, always, atoms_of, is_above, is_at_most, is_equal, is_other, is_refuted, nogood, nogoods, off, on, passes, reified}
 use Rattle.dp_lower.specs.Small.{small_numbers}
 use Rattle.dp_lower.specs.Sums.{Sum, at_most, nonzero, opposite, other_than}
 use Rattle.dp_lower.specs.declared.literal.Literal.{Literal}

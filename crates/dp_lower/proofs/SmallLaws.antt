@@ -1,8 +1,8 @@
 -- The numbers within ±10^9 are in order, and they are all of them.
-use Rattle.std.proofs.Common.{◌≡◌, ℕ, zero, suc, Bool, true, false, List, [], ◌∷◌, filter, ℤ, pos, neg_ℤ, ◌+ℤ◌, ◌≤ℤ◌, refl, sym, ◌∙◌, ap, subst, inl, inr, arith}
+use Rattle.std.proofs.Common.{◌≡◌, ℕ, zero, suc, Bool, true, filter, ℤ, pos, neg_ℤ, ◌+ℤ◌, ◌≤ℤ◌, refl, sym, subst, inl, inr, arith}
 use Rattle.std.specs.Prelude.{◌^◌, ◌⊎◌, ◌<ℤ◌}
 use Rattle.std.proofs.lemmas.Int.{ints}
-use Rattle.dp_base.specs.Lists.{Among, Each}
+use Rattle.dp_base.specs.Lists.{Among}
 use Rattle.dp_base.proofs.Lists.{Among-filter_all, Among-filter_only, Each-from_among}
 use Rattle.dp_domain.specs.Sets.{Collects, IsAscending, IsDomain, IsSmall}
 use Rattle.dp_domain.proofs.AtomLaws.{order_cases}

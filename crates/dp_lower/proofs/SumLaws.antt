@@ -1,18 +1,16 @@
 -- What the normal form of a weighted sum is worth at an assignment.
-use Rattle.std.proofs.Common.{◌≡◌, ℕ, Bool, true, false, List, [], ◌∷◌, map, filter, ℤ, pos, neg_ℤ, ◌+ℤ◌, ◌-ℤ◌, ◌*ℤ◌, refl, sym, ◌∙◌, ap, subst, arith}
-use Rattle.std.specs.Prelude.{nat_lt, not, if◌then◌else◌}
-use Rattle.std.specs.List.{zip}
+use Rattle.std.proofs.Common.{◌≡◌, ℕ, Bool, true, false, List, [], ◌∷◌, map, ℤ, pos, neg_ℤ, ◌+ℤ◌, ◌*ℤ◌, refl, sym, ◌∙◌, ap, arith}
+use Rattle.std.specs.Prelude.{nat_lt}
 use Rattle.std.specs.Ordering.{int_eq}
 use Rattle.std.proofs.lemmas.Int.{ints}
 use Rattle.std.proofs.lemmas.Bool.{ltb-false}
 use Rattle.std.proofs.lemmas.Bool.Decides.{Decides-int_eq}
 use Rattle.dp_base.specs.Lists.{Each}
-use Rattle.dp_base.proofs.ScopeLaws.{IsBefore, IsSame, order_of}
 use Rattle.dp_domain.specs.Terms.{term_at}
 use Rattle.dp_domain.specs.declared.term.Term.{Term}
 use Rattle.dp_domain.specs.declared.term.Term.TheVariants.{Var, Const}
 use Rattle.dp_rule_linear.specs.Forms.{sum_at}
-use Rattle.fz_sat.specs.Globals.{total, weighted_sum}
+use Rattle.fz_sat.specs.Globals.{weighted_sum}
 use Rattle.dp_lower.specs.Facts.{IsConst}
 use Rattle.dp_lower.specs.Sums.{Sum, no_sum, nonzero, number_in, opposite, plus, plus_all, sum_of, weighted, with_term}
 use Rattle.dp_lower.proofs.Products.{times_none, times_opposite, times_plus}
