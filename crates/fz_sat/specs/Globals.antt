@@ -24,8 +24,8 @@ weighted_sum coefficients numbers = total (map (λ p. p.0 *ℤ p.1) (zip coeffic
 abbrev pub IsEntryAt : List ℤ → ℤ → ℤ → Type 0
 IsEntryAt array index value = (place : ℕ) × (index ≡ pos (place + 1)) × (slice_get array place ≡ Some value)
 
--- the entry at the index, if there is one
-abbrev pub entry_at : List ℤ → ℤ → Option ℤ
+-- the entry at the index, counted from 1, if there is one
+abbrev pub entry_at : {A : Type 0} → List A → ℤ → Option A
 entry_at array (pos zero) = None
 entry_at array (pos (suc place)) = slice_get array place
 entry_at array (negsuc n) = None
@@ -81,7 +81,10 @@ KeepsCapacity tasks capacity = (t : ℤ) → usage_at t tasks ≤ℤ capacity
 abbrev pub keeps_at : List Task → ℤ → ℤ → Bool
 keeps_at tasks capacity t = int_le (usage_at t tasks) capacity
 
+-- whether they do so where the task starts and where it ends
+abbrev pub keeps_around : List Task → ℤ → Task → Bool
+keeps_around tasks capacity k = keeps_at tasks capacity k.start && keeps_at tasks capacity (end_of k)
+
 -- the same as a test: where no task runs, and wherever one starts or ends
 abbrev pub keeps_capacity : List Task → ℤ → Bool
-keeps_capacity tasks capacity =
-    int_le (pos 0) capacity && list_all (λ k. keeps_at tasks capacity k.start && keeps_at tasks capacity (end_of k)) tasks
+keeps_capacity tasks capacity = int_le (pos 0) capacity && list_all (keeps_around tasks capacity) tasks

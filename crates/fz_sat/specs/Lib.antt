@@ -2,3 +2,5 @@ pub mod Args
 pub mod Globals
 pub mod Meaning
 pub mod Satisfies
+pub mod Sums
+pub mod Schedules

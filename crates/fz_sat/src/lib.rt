@@ -2,5 +2,19 @@
 #![tactic(auto)]
 
 mod args;
+mod booleans;
+
+mod constraints;
+mod domains;
+mod element;
+
+
+mod global;
+mod linear;
+mod row;
+mod schedule;
+mod wide;
+
 
 pub use args::{arg_elements, arg_set, arg_term, is_in_set, term_of};
+
