@@ -6,3 +6,4 @@ pub mod BoolRows
 pub mod RecipeLaws
 pub mod DomainLaws
 pub mod SolutionLaws
+pub mod MergeLaws

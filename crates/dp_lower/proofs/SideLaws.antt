@@ -2,7 +2,7 @@
 use Rattle.std.proofs.Common.{◌≡◌, ℕ, Bool, true, false, List, [], ◌∷◌, ◌++◌, filter, Option, Some, None, ℤ, pos, neg_ℤ, ◌+ℤ◌, ◌-ℤ◌, ◌≤ℤ◌, refl, sym, ◌∙◌, ap, arith}
 use Rattle.std.specs.Prelude.{not, ◌&&◌, ◌||◌, int_le}
 use Rattle.std.specs.Bool.{Decides}
-use Rattle.std.specs.List.{flat_map, list_all, list_any}
+use Rattle.std.specs.List.{cons_option, filter_map, flat_map, list_all, list_any}
 use Rattle.std.specs.Ordering.{int_eq}
 use Rattle.std.proofs.lemmas.Int.{ints}
 use Rattle.std.proofs.lemmas.Bool.{and_from, and_parts, both_ways, false_from_ne_true, not-false, not-true, not_from_false, or_parts}
@@ -23,7 +23,7 @@ use Rattle.dp_rule_clause.specs.Nogoods.{MeetsNogood, each_once}
 use Rattle.dp_rule_clause.proofs.AtomSteps.{once_same}
 use Rattle.dp_rule_linear.specs.Forms.{sum_at}
 use Rattle.fz_sat.specs.Meaning.{iff, is_on}
-use Rattle.dp_lower.specs.Sides.{Side, always, atoms_of, is_above, is_at_most, is_equal, is_other, is_refuted, nogood, nogoods, off, on, passes, reified}
+use Rattle.dp_lower.specs.Sides.{Side, always, atom_of, is_above, is_at_most, is_equal, is_other, is_refuted, nogood, nogoods, off, on, passes, reified}
 use Rattle.dp_lower.specs.Small.{small_numbers}
 use Rattle.dp_lower.specs.Sums.{Sum, at_most, nonzero, opposite, other_than}
 use Rattle.dp_lower.specs.declared.literal.Literal.{Literal}
@@ -217,17 +217,17 @@ refuted_fails s (literal.Fails (Var x)) e = absurd (both_ways false refl e)
 abbrev pub holds_at : (ℕ → ℤ) → Atomic → Bool
 holds_at s a = meets a (s a.var)
 
-atoms_hold : (s : ℕ → ℤ) (l : Literal) (atoms : List Atomic) → is_refuted l ≡ false → list_all (holds_at s) (atoms_of l ++ atoms) ≡ (is_so s l && list_all (holds_at s) atoms)
+atoms_hold : (s : ℕ → ℤ) (l : Literal) (atoms : List Atomic) → is_refuted l ≡ false → list_all (holds_at s) (cons_option (atom_of l) atoms) ≡ (is_so s l && list_all (holds_at s) atoms)
 atoms_hold s (literal.Holds (Const v)) atoms e = rw (not-false (is_on v) e) refl
 atoms_hold s (literal.Holds (Var x)) atoms e = refl
 atoms_hold s (literal.Fails (Const v)) atoms e = rw e refl
 atoms_hold s (literal.Fails (Var x)) atoms e = ap (λ b. b && list_all (holds_at s) atoms) (below_one (s x))
 
-all_hold : (s : ℕ → ℤ) (literals : List Literal) → list_any is_refuted literals ≡ false → list_all (holds_at s) (flat_map atoms_of literals) ≡ list_all (is_so s) literals
+all_hold : (s : ℕ → ℤ) (literals : List Literal) → list_any is_refuted literals ≡ false → list_all (holds_at s) (filter_map atom_of literals) ≡ list_all (is_so s) literals
 all_hold s [] e = refl
 all_hold s (l ∷ literals) e =
     let parts = or_parts (is_refuted l) (list_any is_refuted literals) e in
-    atoms_hold s l (flat_map atoms_of literals) parts.0 ∙ ap (λ b. is_so s l && b) (all_hold s literals parts.1)
+    atoms_hold s l (filter_map atom_of literals) parts.0 ∙ ap (λ b. is_so s l && b) (all_hold s literals parts.1)
 
 some_fails : (s : ℕ → ℤ) (atoms : List Atomic) → Decides (not (list_all (holds_at s) atoms)) (MeetsNogood (each_once atoms) s)
 some_fails s atoms = (
@@ -241,8 +241,8 @@ nogood_by s literals true e = rw e (
   λ h. let r = list_any-some is_refuted literals e in not_from_false (list_all (is_so s) literals) (list_all-not (is_so s) literals r.0 r.1 (refuted_fails s r.0 r.2)),
 )
 nogood_by s literals false e = rw e (
-  one_part s (Nogood (each_once (flat_map atoms_of literals))) (not_all s literals)
-  (Decides-at (not_all s literals) (not (list_all (holds_at s) (flat_map atoms_of literals))) (ap not (sym (all_hold s literals e))) (some_fails s (flat_map atoms_of literals)))
+  one_part s (Nogood (each_once (filter_map atom_of literals))) (not_all s literals)
+  (Decides-at (not_all s literals) (not (list_all (holds_at s) (filter_map atom_of literals))) (ap not (sym (all_hold s literals e))) (some_fails s (filter_map atom_of literals)))
 )
 
 -- the literals do not all hold

@@ -1,6 +1,6 @@
 -- Sides: parts under a condition, and how constraints are built of them.
 use Rattle.std.specs.Prelude.{ℕ, Bool, false, not, if◌then◌else◌, Option, Some, None, List, [], ◌∷◌, ◌++◌, filter, ℤ, pos, neg_ℤ, ◌-ℤ◌}
-use Rattle.std.specs.List.{flat_map, list_any}
+use Rattle.std.specs.List.{filter_map, flat_map, list_any}
 use Rattle.dp_domain.specs.Atoms.{Atomic}
 use Rattle.dp_domain.specs.declared.atom.Op.TheVariants.{Ge, Le}
 use Rattle.dp_domain.specs.declared.term.Term.{Term}
@@ -80,14 +80,14 @@ is_refuted (Fails (Const v)) = is_on v
 is_refuted _ = false
 
 -- the atom of a literal of a variable
-abbrev pub atoms_of : Literal → List Atomic
-atoms_of (Holds (Var x)) = on x ∷ []
-atoms_of (Fails (Var x)) = off x ∷ []
-atoms_of _ = []
+abbrev pub atom_of : Literal → Option Atomic
+atom_of (Holds (Var x)) = Some (on x)
+atom_of (Fails (Var x)) = Some (off x)
+atom_of _ = None
 
 -- not all of the literals: the atoms of variables, each once; no part where a constant's literal fails
 abbrev pub nogood : List Literal → List Part
-nogood literals = if list_any is_refuted literals then [] else Nogood (each_once (flat_map atoms_of literals)) ∷ []
+nogood literals = if list_any is_refuted literals then [] else Nogood (each_once (filter_map atom_of literals)) ∷ []
 
 -- a nogood of each of these lists
 abbrev pub nogoods : List (List Literal) → List Part

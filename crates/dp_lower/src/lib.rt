@@ -2,5 +2,6 @@
 #![tactic(auto)]
 
 mod literal;
+mod sum;
 
 pub use literal::Literal;
