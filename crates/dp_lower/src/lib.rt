@@ -1,0 +1,7 @@
+//! From models to problems: names, initial domains and the parts of constraints.
+#![tactic(auto)]
+
+mod literal;
+mod sum;
+
+pub use literal::Literal;

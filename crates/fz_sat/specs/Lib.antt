@@ -1,0 +1,6 @@
+pub mod Args
+pub mod Globals
+pub mod Meaning
+pub mod Satisfies
+pub mod Sums
+pub mod Schedules

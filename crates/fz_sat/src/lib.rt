@@ -1,0 +1,20 @@
+//! The meaning of FlatZinc models: which assignments satisfy a model, and the value of its objective.
+#![tactic(auto)]
+
+mod args;
+mod booleans;
+
+mod constraints;
+mod domains;
+mod element;
+
+
+mod global;
+mod linear;
+mod row;
+mod schedule;
+mod wide;
+
+
+pub use args::{arg_elements, arg_set, arg_term, is_in_set, term_of};
+
