@@ -3,7 +3,11 @@ pub mod SumLaws
 pub mod SmallLaws
 pub mod SideLaws
 pub mod BoolRows
+pub mod GlobalLaws
 pub mod RecipeLaws
 pub mod DomainLaws
 pub mod SolutionLaws
 pub mod MergeLaws
+pub mod CoverLaws
+pub mod RecipeCover
+pub mod ProblemLaws
