@@ -7,3 +7,5 @@ pub mod RecipeLaws
 pub mod DomainLaws
 pub mod SolutionLaws
 pub mod MergeLaws
+pub mod ProperLaws
+pub mod SideSteps

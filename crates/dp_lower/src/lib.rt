@@ -2,6 +2,7 @@
 #![tactic(auto)]
 
 mod literal;
+mod sides;
 mod sum;
 
 pub use literal::Literal;
