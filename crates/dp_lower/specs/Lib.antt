@@ -4,6 +4,6 @@ pub mod Facts
 pub mod Sums
 pub mod Merged
 pub mod Sides
-pub mod Codes
 pub mod Recipe
+pub mod Codes
 pub mod Problem
