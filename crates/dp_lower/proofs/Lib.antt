@@ -11,3 +11,5 @@ pub mod MergeLaws
 pub mod CoverLaws
 pub mod RecipeCover
 pub mod ProblemLaws
+pub mod ProperLaws
+pub mod SideSteps

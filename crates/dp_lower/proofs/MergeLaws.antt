@@ -175,7 +175,7 @@ each_turned : (n : ℕ) (ts : List (ℤ × ℕ)) → Each (λ (t : ℤ × ℕ). 
 each_turned n [] h = tt
 each_turned n (t ∷ ts) h = (turned n t.0 h.0, each_turned n ts h.1)
 
-same_variables : (ts : List (ℤ × ℕ)) → variables ts ≡ variables (map (λ t. (neg_ℤ t.0, t.1)) ts)
+pub same_variables : (ts : List (ℤ × ℕ)) → variables ts ≡ variables (map (λ t. (neg_ℤ t.0, t.1)) ts)
 same_variables [] = refl
 same_variables (t ∷ ts) = ap (λ xs. t.1 ∷ xs) (same_variables ts)
 

@@ -6,4 +6,5 @@ pub mod Merged
 pub mod Sides
 pub mod Globals
 pub mod Recipe
+pub mod Codes
 pub mod Problem

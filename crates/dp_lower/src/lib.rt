@@ -1,7 +1,9 @@
 //! From models to problems: names, initial domains and the parts of constraints.
 #![tactic(auto)]
 
+mod booleans;
 mod literal;
+mod sides;
 mod sum;
 
 pub use literal::Literal;

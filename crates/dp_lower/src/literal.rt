@@ -2,6 +2,7 @@
 
 ghost use Rattle.std.specs.Prelude.{◌≡◌, ◌++◌, IfOk, OnOk};
 ghost use Rattle.std.specs.List.{filter_map, list_any};
+ghost use Rattle.dp_rule_clause.specs.Nogoods.{each_once};
 ghost use Rattle.dp_lower.specs.Sides as spec;
 
 use dp_domain::{Atom, Memory, Op, Term, VarId};
@@ -22,9 +23,14 @@ impl Literal {
         ensures { result ≡ spec.is_refuted self }
     {
         match self {
-            Literal::Holds(Term::Const(value)) => value < 1,
-            Literal::Fails(Term::Const(value)) => value >= 1,
-            _ => false,
+            Literal::Holds(term) => match term {
+                Term::Const(value) => value < 1,
+                Term::Var(_) => false,
+            },
+            Literal::Fails(term) => match term {
+                Term::Const(value) => value >= 1,
+                Term::Var(_) => false,
+            },
         }
     }
 
@@ -33,9 +39,14 @@ impl Literal {
         ensures { result ≡ spec.atom_of self }
     {
         match self {
-            Literal::Holds(Term::Var(var)) => Some(on(var)),
-            Literal::Fails(Term::Var(var)) => Some(off(var)),
-            _ => None,
+            Literal::Holds(term) => match term {
+                Term::Var(var) => Some(on(var)),
+                Term::Const(_) => None,
+            },
+            Literal::Fails(term) => match term {
+                Term::Var(var) => Some(off(var)),
+                Term::Const(_) => None,
+            },
         }
     }
 }
@@ -59,13 +70,27 @@ pub fn off(var: VarId) -> Atom
 pub fn push_nogood(parts: &mut Vec<Part>, literals: &[Literal]) -> Result<(), Memory>
     ensures { OnOk result (parts.new.items ≡ parts.old.items ++ spec.nogood literals.now) }
 {
-    if literals.iter().any(|literal| literal.is_refuted()) {
+    if any_refuted(literals) {
         return Ok(());
     }
-    let alloc = *parts.allocator();
-    let atoms = atoms_of(alloc, literals)?;
-    parts.push(Part::Nogood(Nogood::new(alloc, &atoms)?))?;
+    let part = nogood_of(*parts.allocator(), literals)?;
+    parts.push(Part::Nogood(part))?;
     Ok(())
+}
+
+/// Whether a constant's literal fails.
+fn any_refuted(literals: &[Literal]) -> bool
+    ensures { result ≡ list_any spec.is_refuted literals.now }
+{
+    literals.iter().any(|literal| literal.is_refuted())
+}
+
+/// The nogood of the atoms of variables among the literals, each once.
+fn nogood_of(alloc: Global, literals: &[Literal]) -> Result<Nogood, Memory>
+    ensures { IfOk result (λ nogood. nogood ≡ each_once (filter_map spec.atom_of literals.now)) }
+{
+    let atoms = atoms_of(alloc, literals)?;
+    Nogood::new(alloc, &atoms)
 }
 
 /// The atoms of variables among the literals.
