@@ -2,6 +2,7 @@
 #![tactic(auto)]
 
 mod booleans;
+mod globals;
 mod literal;
 mod sides;
 mod sum;
