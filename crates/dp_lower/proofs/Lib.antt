@@ -9,3 +9,4 @@ pub mod SolutionLaws
 pub mod MergeLaws
 pub mod ProperLaws
 pub mod SideSteps
+pub mod WeightLaws

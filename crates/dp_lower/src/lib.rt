@@ -5,5 +5,6 @@ mod booleans;
 mod literal;
 mod sides;
 mod sum;
+mod terms;
 
 pub use literal::Literal;
