@@ -3,6 +3,7 @@ pub mod SumLaws
 pub mod SmallLaws
 pub mod SideLaws
 pub mod BoolRows
+pub mod GlobalLaws
 pub mod RecipeLaws
 pub mod DomainLaws
 pub mod SolutionLaws
@@ -10,3 +11,6 @@ pub mod MergeLaws
 pub mod ProperLaws
 pub mod SideSteps
 pub mod WeightLaws
+pub mod CoverLaws
+pub mod RecipeCover
+pub mod ProblemLaws

@@ -1,6 +1,6 @@
 -- What the parts of each kind of constraint say: one line for each row of the table.
 use Rattle.std.proofs.Common.{◌≡◌, ℕ, Bool, true, false, List, [], ◌∷◌, map, ℤ, pos, negsuc, ◌+ℤ◌, ◌-ℤ◌, ◌*ℤ◌, ◌≤ℤ◌, refl, sym, ◌∙◌, ap, arith}
-use Rattle.std.specs.Prelude.{nat_le, not, ◌&&◌, ◌||◌, int_le, int_lt}
+use Rattle.std.specs.Prelude.{◌↔◌, nat_le, not, ◌&&◌, ◌||◌, int_le, int_lt}
 use Rattle.std.specs.List.{list_all}
 use Rattle.std.specs.Ordering.{int_eq}
 use Rattle.std.proofs.lemmas.Int.{ints}
@@ -19,14 +19,15 @@ use Rattle.fz_model.specs.declared.kinds.ConstraintKind.TheVariants as of
 use Rattle.fz_model.specs.declared.model.SetText.{SetText}
 use Rattle.fz_sat.specs.Args.{is_in_set}
 use Rattle.fz_sat.specs.Globals.{weighted_sum}
-use Rattle.fz_sat.specs.Meaning.{Given, holds, iff, is_on}
-use Rattle.dp_lower.specs.Facts.{IsConst, IsSmallConst}
-use Rattle.dp_lower.specs.Recipe.{Args, all_rows, any_rows, clause_row, clause_rows, difference, excess, is_built, limit, linear_sum, member, member_reified, other_rows, recipe, rows_by, same_rows, xor_rows}
+use Rattle.fz_sat.specs.Meaning.{Given, Meaning, holds, iff, is_on}
+use Rattle.dp_lower.specs.Facts.{IsAmountConst, IsConst, IsSmallConst}
+use Rattle.dp_lower.specs.Recipe.{Args, all_rows, any_rows, clause_row, clause_rows, difference, excess, limit, linear_sum, member, member_reified, other_rows, recipe, rows_by, same_rows, xor_rows}
 use Rattle.dp_lower.specs.Sides.{Side, is_above, is_at_most, is_equal, is_member, is_no_member, is_other}
 use Rattle.dp_lower.specs.Sums.{weighted}
 use Rattle.dp_lower.specs.declared.literal.Literal.TheVariants.{Holds, Fails}
 use Rattle.dp_lower.proofs.BoolRows.{all_rows_say, any_rows_say, clause_rows_say, clause_says, le_row, lt_row, not_le_row, not_lt_row, not_other_row, other_row, rows_by_say, same_row}
-use Rattle.dp_lower.proofs.SideLaws.{Say, SaysSide, above_says, always_says, at_most_says, equal_says, nogood_says, nogoods_say, not_all, other_says, passes_says, reified_says}
+use Rattle.dp_lower.proofs.GlobalLaws.{all_different_means, scheduled_means, selected_means}
+use Rattle.dp_lower.proofs.SideLaws.{AreMet, Say, SaysSide, above_says, always_says, at_most_says, equal_says, nogood_says, nogoods_say, not_all, other_says, passes_says, reified_says}
 use Rattle.dp_lower.proofs.SumLaws.{const_value, value-sum_of, value_at, worth-weighted}
 
 -- ---- sums
@@ -113,7 +114,13 @@ member_reified_says s (Const v) set r small = by (is_in_set set v) refl
 abbrev pub given_at : (ℕ → ℤ) → Args → Given
 given_at s a = record { number = λ k. term_at s (a.term k); numbers = λ k. map (term_at s) (a.terms k); set = a.set; count = a.count }
 
--- what the row rests on: constant coefficients and limits, and a small variable in a set
+-- the durations, the uses and the capacity in the arguments of a schedule are numbers from 0 to 10^9
+pub record AreAmounts (a : Args) : Type 0 where
+  pub durations : Each IsAmountConst (a.terms 1)
+  pub uses : Each IsAmountConst (a.terms 2)
+  pub capacity : IsAmountConst (a.term 3)
+
+-- what the row rests on: constant coefficients and limits, a small variable in a set, and amounts of tasks
 abbrev pub Rests : (ℕ → ℤ) → ConstraintKind → Args → Type 0
 Rests s of.IntLinLe a = Each IsSmallConst (a.terms 0) × IsConst (a.term 2)
 Rests s of.IntLinEq a = Each IsSmallConst (a.terms 0) × IsConst (a.term 2)
@@ -123,7 +130,21 @@ Rests s of.IntLinEqReif a = Each IsSmallConst (a.terms 0) × IsConst (a.term 2)
 Rests s of.IntLinNeReif a = Each IsSmallConst (a.terms 0) × IsConst (a.term 2)
 Rests s of.SetIn a = IsSmallAt s (a.term 0)
 Rests s of.SetInReif a = IsSmallAt s (a.term 0)
+Rests s of.Cumulative a = AreAmounts a
+Rests s of.FznCumulative a = AreAmounts a
 Rests s _ a = Unit {0}
+
+-- whether the meaning of the kind is its test
+abbrev pub is_tested : ConstraintKind → Bool
+is_tested of.ArrayIntElement = false
+is_tested of.ArrayVarIntElement = false
+is_tested of.ArrayBoolElement = false
+is_tested of.ArrayVarBoolElement = false
+is_tested of.AllDifferentInt = false
+is_tested of.FznAllDifferentInt = false
+is_tested of.Cumulative = false
+is_tested of.FznCumulative = false
+is_tested _ = true
 
 -- the sum, and the limit, as the meaning has them
 linear_at_most : (s : ℕ → ℤ) (a : Args) → Each IsSmallConst (a.terms 0) × IsConst (a.term 2) →
@@ -165,105 +186,117 @@ two_or false false = refl
 twice_not : (s : ℕ → ℤ) (side : Side) (b : Bool) → SaysSide s side b → SaysSide s side (not (not b))
 twice_not s side b says = rw (← not_not b) says
 
--- an assignment meets the parts exactly where it meets the constraint
-pub recipe_says : (s : ℕ → ℤ) (kind : ConstraintKind) (a : Args) → is_built kind ≡ true → Rests s kind a → Say s (recipe kind a) (holds kind (given_at s a))
-recipe_says s of.IntLinLe a built h =
+-- an assignment meets the parts exactly where the test of the constraint passes
+recipe_says : (s : ℕ → ℤ) (kind : ConstraintKind) (a : Args) → is_tested kind ≡ true → Rests s kind a → Say s (recipe kind a) (holds kind (given_at s a))
+recipe_says s of.IntLinLe a tested h =
     said s (recipe of.IntLinLe a) (holds of.IntLinLe (given_at s a)) (int_le (value_at s (linear_sum a)) (limit a)) (linear_at_most s a h)
     (always_says s (is_at_most (linear_sum a) (limit a)) (int_le (value_at s (linear_sum a)) (limit a)) (at_most_says s (linear_sum a) (limit a)))
-recipe_says s of.IntLinEq a built h =
+recipe_says s of.IntLinEq a tested h =
     said s (recipe of.IntLinEq a) (holds of.IntLinEq (given_at s a)) (int_eq (value_at s (linear_sum a)) (limit a)) (linear_equal s a h)
     (always_says s (is_equal (linear_sum a) (limit a)) (int_eq (value_at s (linear_sum a)) (limit a)) (equal_says s (linear_sum a) (limit a)))
-recipe_says s of.IntLinNe a built h =
+recipe_says s of.IntLinNe a tested h =
     said s (recipe of.IntLinNe a) (holds of.IntLinNe (given_at s a)) (not (int_eq (value_at s (linear_sum a)) (limit a))) (ap not (linear_equal s a h))
     (always_says s (is_other (linear_sum a) (limit a)) (not (int_eq (value_at s (linear_sum a)) (limit a))) (other_says s (linear_sum a) (limit a)))
-recipe_says s of.IntLinLeReif a built h =
+recipe_says s of.IntLinLeReif a tested h =
     said s (recipe of.IntLinLeReif a) (holds of.IntLinLeReif (given_at s a)) (iff (is_on (term_at s (a.term 3))) (int_le (value_at s (linear_sum a)) (limit a))) (ap (λ b. iff (is_on (term_at s (a.term 3))) b) (linear_at_most s a h))
     (reified_says s (a.term 3) (is_at_most (linear_sum a) (limit a)) (is_above (linear_sum a) (limit a)) (int_le (value_at s (linear_sum a)) (limit a)) (at_most_says s (linear_sum a) (limit a)) (above_says s (linear_sum a) (limit a)))
-recipe_says s of.IntLinEqReif a built h =
+recipe_says s of.IntLinEqReif a tested h =
     said s (recipe of.IntLinEqReif a) (holds of.IntLinEqReif (given_at s a)) (iff (is_on (term_at s (a.term 3))) (int_eq (value_at s (linear_sum a)) (limit a))) (ap (λ b. iff (is_on (term_at s (a.term 3))) b) (linear_equal s a h))
     (reified_says s (a.term 3) (is_equal (linear_sum a) (limit a)) (is_other (linear_sum a) (limit a)) (int_eq (value_at s (linear_sum a)) (limit a)) (equal_says s (linear_sum a) (limit a)) (other_says s (linear_sum a) (limit a)))
-recipe_says s of.IntLinNeReif a built h =
+recipe_says s of.IntLinNeReif a tested h =
     said s (recipe of.IntLinNeReif a) (holds of.IntLinNeReif (given_at s a)) (iff (is_on (term_at s (a.term 3))) (not (int_eq (value_at s (linear_sum a)) (limit a)))) (ap (λ b. iff (is_on (term_at s (a.term 3))) (not b)) (linear_equal s a h))
     (reified_says s (a.term 3) (is_other (linear_sum a) (limit a)) (is_equal (linear_sum a) (limit a)) (not (int_eq (value_at s (linear_sum a)) (limit a))) (other_says s (linear_sum a) (limit a)) (twice_not s (is_equal (linear_sum a) (limit a)) (int_eq (value_at s (linear_sum a)) (limit a)) (equal_says s (linear_sum a) (limit a))))
-recipe_says s of.IntLeReif a built h =
+recipe_says s of.IntLeReif a tested h =
     said s (recipe of.IntLeReif a) (holds of.IntLeReif (given_at s a)) (iff (is_on (term_at s (a.term 2))) (int_le (value_at s (difference a)) (pos 0))) (ap (λ b. iff (is_on (term_at s (a.term 2))) b) (le_less (term_at s (a.term 0)) (term_at s (a.term 1)) (value_at s (difference a)) (difference_value s a)))
     (reified_says s (a.term 2) (is_at_most (difference a) (pos 0)) (is_above (difference a) (pos 0)) (int_le (value_at s (difference a)) (pos 0)) (at_most_says s (difference a) (pos 0)) (above_says s (difference a) (pos 0)))
-recipe_says s of.IntLtReif a built h =
+recipe_says s of.IntLtReif a tested h =
     said s (recipe of.IntLtReif a) (holds of.IntLtReif (given_at s a)) (iff (is_on (term_at s (a.term 2))) (int_le (value_at s (difference a)) (negsuc 0))) (ap (λ b. iff (is_on (term_at s (a.term 2))) b) (lt_less (term_at s (a.term 0)) (term_at s (a.term 1)) (value_at s (difference a)) (difference_value s a)))
     (reified_says s (a.term 2) (is_at_most (difference a) (negsuc 0)) (is_above (difference a) (negsuc 0)) (int_le (value_at s (difference a)) (negsuc 0)) (at_most_says s (difference a) (negsuc 0)) (above_says s (difference a) (negsuc 0)))
-recipe_says s of.IntEqReif a built h =
+recipe_says s of.IntEqReif a tested h =
     said s (recipe of.IntEqReif a) (holds of.IntEqReif (given_at s a)) (iff (is_on (term_at s (a.term 2))) (int_eq (value_at s (difference a)) (pos 0))) (ap (λ b. iff (is_on (term_at s (a.term 2))) b) (eq_less (term_at s (a.term 0)) (term_at s (a.term 1)) (value_at s (difference a)) (difference_value s a)))
     (reified_says s (a.term 2) (is_equal (difference a) (pos 0)) (is_other (difference a) (pos 0)) (int_eq (value_at s (difference a)) (pos 0)) (equal_says s (difference a) (pos 0)) (other_says s (difference a) (pos 0)))
-recipe_says s of.IntNeReif a built h =
+recipe_says s of.IntNeReif a tested h =
     said s (recipe of.IntNeReif a) (holds of.IntNeReif (given_at s a)) (iff (is_on (term_at s (a.term 2))) (not (int_eq (value_at s (difference a)) (pos 0)))) (ap (λ b. iff (is_on (term_at s (a.term 2))) (not b)) (eq_less (term_at s (a.term 0)) (term_at s (a.term 1)) (value_at s (difference a)) (difference_value s a)))
     (reified_says s (a.term 2) (is_other (difference a) (pos 0)) (is_equal (difference a) (pos 0)) (not (int_eq (value_at s (difference a)) (pos 0))) (other_says s (difference a) (pos 0)) (twice_not s (is_equal (difference a) (pos 0)) (int_eq (value_at s (difference a)) (pos 0)) (equal_says s (difference a) (pos 0))))
-recipe_says s of.IntLe a built h =
+recipe_says s of.IntLe a tested h =
     said s (recipe of.IntLe a) (holds of.IntLe (given_at s a)) (int_le (value_at s (difference a)) (pos 0)) (le_less (term_at s (a.term 0)) (term_at s (a.term 1)) (value_at s (difference a)) (difference_value s a))
     (always_says s (is_at_most (difference a) (pos 0)) (int_le (value_at s (difference a)) (pos 0)) (at_most_says s (difference a) (pos 0)))
-recipe_says s of.IntLt a built h =
+recipe_says s of.IntLt a tested h =
     said s (recipe of.IntLt a) (holds of.IntLt (given_at s a)) (int_le (value_at s (difference a)) (negsuc 0)) (lt_less (term_at s (a.term 0)) (term_at s (a.term 1)) (value_at s (difference a)) (difference_value s a))
     (always_says s (is_at_most (difference a) (negsuc 0)) (int_le (value_at s (difference a)) (negsuc 0)) (at_most_says s (difference a) (negsuc 0)))
-recipe_says s of.IntEq a built h =
+recipe_says s of.IntEq a tested h =
     said s (recipe of.IntEq a) (holds of.IntEq (given_at s a)) (int_eq (value_at s (difference a)) (pos 0)) (eq_less (term_at s (a.term 0)) (term_at s (a.term 1)) (value_at s (difference a)) (difference_value s a))
     (always_says s (is_equal (difference a) (pos 0)) (int_eq (value_at s (difference a)) (pos 0)) (equal_says s (difference a) (pos 0)))
-recipe_says s of.IntNe a built h =
+recipe_says s of.IntNe a tested h =
     said s (recipe of.IntNe a) (holds of.IntNe (given_at s a)) (not (int_eq (value_at s (difference a)) (pos 0))) (ap not (eq_less (term_at s (a.term 0)) (term_at s (a.term 1)) (value_at s (difference a)) (difference_value s a)))
     (always_says s (is_other (difference a) (pos 0)) (not (int_eq (value_at s (difference a)) (pos 0))) (other_says s (difference a) (pos 0)))
-recipe_says s of.Bool2Int a built h =
+recipe_says s of.Bool2Int a tested h =
     said s (recipe of.Bool2Int a) (holds of.Bool2Int (given_at s a)) (int_eq (value_at s (difference a)) (pos 0)) (eq_more (term_at s (a.term 1)) (term_at s (a.term 0)) (value_at s (difference a)) (difference_value s a))
     (always_says s (is_equal (difference a) (pos 0)) (int_eq (value_at s (difference a)) (pos 0)) (equal_says s (difference a) (pos 0)))
-recipe_says s of.IntPlus a built h =
+recipe_says s of.IntPlus a tested h =
     said s (recipe of.IntPlus a) (holds of.IntPlus (given_at s a)) (int_eq (value_at s (excess a)) (pos 0)) (plus_eq (term_at s (a.term 0)) (term_at s (a.term 1)) (term_at s (a.term 2)) (value_at s (excess a)) (excess_value s a))
     (always_says s (is_equal (excess a) (pos 0)) (int_eq (value_at s (excess a)) (pos 0)) (equal_says s (excess a) (pos 0)))
-recipe_says s of.BoolEq a built h =
+recipe_says s of.BoolEq a tested h =
     said s (recipe of.BoolEq a) (holds of.BoolEq (given_at s a)) (list_all (not_all s) (same_rows (a.term 0) (a.term 1))) (same_row (is_on (term_at s (a.term 0))) (is_on (term_at s (a.term 1))))
     (nogoods_say s (same_rows (a.term 0) (a.term 1)))
-recipe_says s of.BoolNot a built h =
+recipe_says s of.BoolNot a tested h =
     said s (recipe of.BoolNot a) (holds of.BoolNot (given_at s a)) (list_all (not_all s) (other_rows (a.term 0) (a.term 1))) (other_row (is_on (term_at s (a.term 0))) (is_on (term_at s (a.term 1))))
     (nogoods_say s (other_rows (a.term 0) (a.term 1)))
-recipe_says s of.BoolXor a built h =
+recipe_says s of.BoolXor a tested h =
     said s (recipe of.BoolXor a) (holds of.BoolXor (given_at s a)) (list_all (not_all s) (xor_rows a)) (xor_says s a (nat_le 3 a.count) refl)
     (nogoods_say s (xor_rows a))
-recipe_says s of.BoolLe a built h =
+recipe_says s of.BoolLe a tested h =
     said s (recipe of.BoolLe a) (holds of.BoolLe (given_at s a)) (list_all (not_all s) ((Holds (a.term 0) ∷ Fails (a.term 1) ∷ []) ∷ [])) (le_row (is_on (term_at s (a.term 0))) (is_on (term_at s (a.term 1))))
     (nogoods_say s ((Holds (a.term 0) ∷ Fails (a.term 1) ∷ []) ∷ []))
-recipe_says s of.BoolLt a built h =
+recipe_says s of.BoolLt a tested h =
     said s (recipe of.BoolLt a) (holds of.BoolLt (given_at s a)) (list_all (not_all s) ((Holds (a.term 0) ∷ []) ∷ (Fails (a.term 1) ∷ []) ∷ [])) (lt_row (is_on (term_at s (a.term 0))) (is_on (term_at s (a.term 1))))
     (nogoods_say s ((Holds (a.term 0) ∷ []) ∷ (Fails (a.term 1) ∷ []) ∷ []))
-recipe_says s of.BoolEqReif a built h =
+recipe_says s of.BoolEqReif a tested h =
     said s (recipe of.BoolEqReif a) (holds of.BoolEqReif (given_at s a)) (list_all (not_all s) (rows_by (a.term 2) (same_rows (a.term 0) (a.term 1)) (other_rows (a.term 0) (a.term 1)))) (rows_by_say s (a.term 2) (same_rows (a.term 0) (a.term 1)) (other_rows (a.term 0) (a.term 1)) (iff (is_on (term_at s (a.term 0))) (is_on (term_at s (a.term 1)))) (same_row (is_on (term_at s (a.term 0))) (is_on (term_at s (a.term 1)))) (other_row (is_on (term_at s (a.term 0))) (is_on (term_at s (a.term 1)))))
     (nogoods_say s (rows_by (a.term 2) (same_rows (a.term 0) (a.term 1)) (other_rows (a.term 0) (a.term 1))))
-recipe_says s of.BoolLeReif a built h =
+recipe_says s of.BoolLeReif a tested h =
     said s (recipe of.BoolLeReif a) (holds of.BoolLeReif (given_at s a)) (list_all (not_all s) (rows_by (a.term 2) ((Holds (a.term 0) ∷ Fails (a.term 1) ∷ []) ∷ []) ((Fails (a.term 0) ∷ []) ∷ (Holds (a.term 1) ∷ []) ∷ []))) (rows_by_say s (a.term 2) ((Holds (a.term 0) ∷ Fails (a.term 1) ∷ []) ∷ []) ((Fails (a.term 0) ∷ []) ∷ (Holds (a.term 1) ∷ []) ∷ []) (not (is_on (term_at s (a.term 0))) || (is_on (term_at s (a.term 1)))) (le_row (is_on (term_at s (a.term 0))) (is_on (term_at s (a.term 1)))) (not_le_row (is_on (term_at s (a.term 0))) (is_on (term_at s (a.term 1)))))
     (nogoods_say s (rows_by (a.term 2) ((Holds (a.term 0) ∷ Fails (a.term 1) ∷ []) ∷ []) ((Fails (a.term 0) ∷ []) ∷ (Holds (a.term 1) ∷ []) ∷ [])))
-recipe_says s of.BoolLtReif a built h =
+recipe_says s of.BoolLtReif a tested h =
     said s (recipe of.BoolLtReif a) (holds of.BoolLtReif (given_at s a)) (list_all (not_all s) (rows_by (a.term 2) ((Holds (a.term 0) ∷ []) ∷ (Fails (a.term 1) ∷ []) ∷ []) ((Fails (a.term 0) ∷ Holds (a.term 1) ∷ []) ∷ []))) (rows_by_say s (a.term 2) ((Holds (a.term 0) ∷ []) ∷ (Fails (a.term 1) ∷ []) ∷ []) ((Fails (a.term 0) ∷ Holds (a.term 1) ∷ []) ∷ []) (not (is_on (term_at s (a.term 0))) && (is_on (term_at s (a.term 1)))) (lt_row (is_on (term_at s (a.term 0))) (is_on (term_at s (a.term 1)))) (not_lt_row (is_on (term_at s (a.term 0))) (is_on (term_at s (a.term 1)))))
     (nogoods_say s (rows_by (a.term 2) ((Holds (a.term 0) ∷ []) ∷ (Fails (a.term 1) ∷ []) ∷ []) ((Fails (a.term 0) ∷ Holds (a.term 1) ∷ []) ∷ [])))
-recipe_says s of.BoolAnd a built h =
+recipe_says s of.BoolAnd a tested h =
     said s (recipe of.BoolAnd a) (holds of.BoolAnd (given_at s a)) (list_all (not_all s) (all_rows (a.term 0 ∷ a.term 1 ∷ []) (a.term 2))) (ap (λ b. iff (is_on (term_at s (a.term 2))) b) (two_and (is_on (term_at s (a.term 0))) (is_on (term_at s (a.term 1)))) ∙ all_rows_say s (a.term 2) (a.term 0 ∷ a.term 1 ∷ []))
     (nogoods_say s (all_rows (a.term 0 ∷ a.term 1 ∷ []) (a.term 2)))
-recipe_says s of.BoolOr a built h =
+recipe_says s of.BoolOr a tested h =
     said s (recipe of.BoolOr a) (holds of.BoolOr (given_at s a)) (list_all (not_all s) (any_rows (a.term 0 ∷ a.term 1 ∷ []) (a.term 2))) (ap (λ b. iff (is_on (term_at s (a.term 2))) b) (two_or (is_on (term_at s (a.term 0))) (is_on (term_at s (a.term 1)))) ∙ any_rows_say s (a.term 2) (a.term 0 ∷ a.term 1 ∷ []))
     (nogoods_say s (any_rows (a.term 0 ∷ a.term 1 ∷ []) (a.term 2)))
-recipe_says s of.ArrayBoolAnd a built h =
+recipe_says s of.ArrayBoolAnd a tested h =
     said s (recipe of.ArrayBoolAnd a) (holds of.ArrayBoolAnd (given_at s a)) (list_all (not_all s) (all_rows (a.terms 0) (a.term 1))) (all_rows_say s (a.term 1) (a.terms 0))
     (nogoods_say s (all_rows (a.terms 0) (a.term 1)))
-recipe_says s of.ArrayBoolOr a built h =
+recipe_says s of.ArrayBoolOr a tested h =
     said s (recipe of.ArrayBoolOr a) (holds of.ArrayBoolOr (given_at s a)) (list_all (not_all s) (any_rows (a.terms 0) (a.term 1))) (any_rows_say s (a.term 1) (a.terms 0))
     (nogoods_say s (any_rows (a.terms 0) (a.term 1)))
-recipe_says s of.BoolClause a built h =
+recipe_says s of.BoolClause a tested h =
     said s (recipe of.BoolClause a) (holds of.BoolClause (given_at s a)) (not_all s (clause_row (a.terms 0) (a.terms 1))) (clause_says s (a.terms 0) (a.terms 1))
     (nogood_says s (clause_row (a.terms 0) (a.terms 1)))
-recipe_says s of.BoolClauseReif a built h =
+recipe_says s of.BoolClauseReif a tested h =
     said s (recipe of.BoolClauseReif a) (holds of.BoolClauseReif (given_at s a)) (list_all (not_all s) (clause_rows (a.terms 0) (a.terms 1) (a.term 2))) (clause_rows_say s (a.terms 0) (a.terms 1) (a.term 2))
     (nogoods_say s (clause_rows (a.terms 0) (a.terms 1) (a.term 2)))
-recipe_says s of.SetIn a built h = member_says s (a.term 0) (a.set 1) h
-recipe_says s of.SetInReif a built h = member_reified_says s (a.term 0) (a.set 1) (a.term 2) h
-recipe_says s of.ArrayIntElement a built h = absurd (both_ways false refl built)
-recipe_says s of.ArrayVarIntElement a built h = absurd (both_ways false refl built)
-recipe_says s of.ArrayBoolElement a built h = absurd (both_ways false refl built)
-recipe_says s of.ArrayVarBoolElement a built h = absurd (both_ways false refl built)
-recipe_says s of.AllDifferentInt a built h = absurd (both_ways false refl built)
-recipe_says s of.FznAllDifferentInt a built h = absurd (both_ways false refl built)
-recipe_says s of.Cumulative a built h = absurd (both_ways false refl built)
-recipe_says s of.FznCumulative a built h = absurd (both_ways false refl built)
+recipe_says s of.SetIn a tested h = member_says s (a.term 0) (a.set 1) h
+recipe_says s of.SetInReif a tested h = member_reified_says s (a.term 0) (a.set 1) (a.term 2) h
+recipe_says s of.ArrayIntElement a tested h = absurd (both_ways false refl tested)
+recipe_says s of.ArrayVarIntElement a tested h = absurd (both_ways false refl tested)
+recipe_says s of.ArrayBoolElement a tested h = absurd (both_ways false refl tested)
+recipe_says s of.ArrayVarBoolElement a tested h = absurd (both_ways false refl tested)
+recipe_says s of.AllDifferentInt a tested h = absurd (both_ways false refl tested)
+recipe_says s of.FznAllDifferentInt a tested h = absurd (both_ways false refl tested)
+recipe_says s of.Cumulative a tested h = absurd (both_ways false refl tested)
+recipe_says s of.FznCumulative a tested h = absurd (both_ways false refl tested)
+
+-- an assignment meets the parts exactly where it meets the constraint
+pub recipe_means : (s : ℕ → ℤ) (kind : ConstraintKind) (a : Args) → Rests s kind a → AreMet s (recipe kind a) ↔ Meaning kind (given_at s a)
+recipe_means s of.ArrayIntElement a h = selected_means s (a.term 0) (a.terms 1) (a.term 2)
+recipe_means s of.ArrayVarIntElement a h = selected_means s (a.term 0) (a.terms 1) (a.term 2)
+recipe_means s of.ArrayBoolElement a h = selected_means s (a.term 0) (a.terms 1) (a.term 2)
+recipe_means s of.ArrayVarBoolElement a h = selected_means s (a.term 0) (a.terms 1) (a.term 2)
+recipe_means s of.AllDifferentInt a h = all_different_means s (a.terms 0)
+recipe_means s of.FznAllDifferentInt a h = all_different_means s (a.terms 0)
+recipe_means s of.Cumulative a h = scheduled_means s (a.terms 0) (a.terms 1) (a.terms 2) (a.term 3) h.durations h.uses h.capacity
+recipe_means s of.FznCumulative a h = scheduled_means s (a.terms 0) (a.terms 1) (a.terms 2) (a.term 3) h.durations h.uses h.capacity
+recipe_means s kind a h = let says = recipe_says s kind a refl h in (says.1, says.0)

@@ -1,10 +1,12 @@
 -- What holds of every model: what its text's tests have shown. Lowering rests on these facts alone.
-use Rattle.std.specs.Prelude.{◌≡◌, ℕ, ◌+◌, ◌<◌, ◌≤◌, true, false, ◌⊎◌, if◌then◌else◌, MatchOption, Option, List, [], ◌∷◌, length, map, pos}
+use Rattle.std.specs.Prelude.{◌≡◌, ℕ, ◌+◌, ◌<◌, ◌≤◌, ◌^◌, true, false, ◌⊎◌, if◌then◌else◌, MatchOption, Option, Some, List, [], ◌∷◌, length, map, ℤ, pos, ◌≤ℤ◌}
+use Rattle.std.specs.List.{list_any}
 use Rattle.dp_base.specs.Lists.{Among, Each}
 use Rattle.dp_base.specs.Names.{is_name}
 use Rattle.dp_domain.specs.Sets.{IsSmall}
 use Rattle.dp_domain.specs.declared.term.Term.{Term}
 use Rattle.dp_domain.specs.declared.term.Term.TheVariants.{Var, Const}
+use Rattle.fz_model.specs.Constraints.{pairs_arrays, wants_array}
 use Rattle.fz_model.specs.Models.{Plan, count_variables, is_own, named_variable}
 use Rattle.fz_model.specs.Table.{args_of, constraint_of}
 use Rattle.fz_model.specs.declared.kinds.ArgKind.{ArgKind}
@@ -92,6 +94,15 @@ abbrev pub IsConst : Term → Type 0
 IsConst (Const v) = Unit {0}
 IsConst (Var x) = ⊥
 
+-- a number from 0 to 10^9
+abbrev pub IsAmount : ℤ → Type 0
+IsAmount v = (pos 0 ≤ℤ v) × (v ≤ℤ pos (10 ^ 9))
+
+-- the term is a number from 0 to 10^9
+abbrev pub IsAmountConst : Term → Type 0
+IsAmountConst (Const v) = IsAmount v
+IsAmountConst (Var x) = ⊥
+
 -- at most so many terms, each such
 pub record AreFew (P : Term → Type 0) (terms : List Term) : Type 0 where
   pub few : length terms ≤ 2000000
@@ -108,17 +119,36 @@ IsFit items args k arg.BoolConsts = AreFew IsConst (arg_terms items args k)
 IsFit items args k arg.Coefficients = AreFew IsSmallConst (arg_terms items args k)
 IsFit items args k arg.Set = Unit {0}
 IsFit items args k arg.Const = IsConst (arg_term items args k)
-IsFit items args k arg.Amounts = AreFew IsSmallConst (arg_terms items args k)
-IsFit items args k arg.Amount = IsSmallConst (arg_term items args k)
+IsFit items args k arg.Amounts = AreFew IsAmountConst (arg_terms items args k)
+IsFit items args k arg.Amount = IsAmountConst (arg_term items args k)
 
 -- the arguments from place k on are what is wanted
 abbrev pub AreFit : List Item → List Expr → ℕ → List ArgKind → Type 0
 AreFit items args k [] = Unit {0}
 AreFit items args k (kind ∷ wanted) = IsFit items args k kind × AreFit items args (k + 1) wanted
 
+-- all numbers are equal
+abbrev pub AreEqual : List ℕ → Type 0
+AreEqual [] = Unit {0}
+AreEqual (n ∷ ns) = Each (λ m. m ≡ n) ns
+
+-- the lengths of the arrays among the arguments from place k on
+abbrev pub array_lengths : List Item → List Expr → ℕ → List ArgKind → List ℕ
+array_lengths items args k [] = []
+array_lengths items args k (kind ∷ wanted) =
+    if wants_array (Some kind) then length (arg_terms items args k) ∷ array_lengths items args (k + 1) wanted else array_lengths items args (k + 1) wanted
+
+-- where arrays are paired with coefficients or amounts, all have equal lengths
+abbrev pub ArePaired : List Item → List Expr → List ArgKind → Type 0
+ArePaired items args wanted = list_any pairs_arrays wanted ≡ true → AreEqual (array_lengths items args 0 wanted)
+
 -- the constraint has a meaning, and its arguments are what its kind wants
 abbrev pub IsFitted : List Item → Constraint → Type 0
 IsFitted items c = MatchOption (constraint_of c.name) ⊥ (λ kind. AreFit items c.args 0 (args_of kind))
+
+-- the constraint has a meaning, and its arrays have equal lengths where its kind pairs them
+abbrev pub IsPaired : List Item → Constraint → Type 0
+IsPaired items c = MatchOption (constraint_of c.name) ⊥ (λ kind. ArePaired items c.args (args_of kind))
 
 -- ---- the whole
 
@@ -140,6 +170,7 @@ pub record IsWellFormed (m : Plan) : Type 0 where
   pub numbered : AreNumbered m.items 0 m.items
   pub declared : Each (IsDeclared m.items) m.items
   pub fitted : Each (IsFitted m.items) m.constraints
+  pub paired : Each (IsPaired m.items) m.constraints
   pub goal : IsGoal m.items m.goal
   pub few_names : length (names_of m.items) ≤ 200000
   pub few_constraints : length m.constraints ≤ 200000

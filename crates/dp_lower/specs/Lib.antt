@@ -4,6 +4,7 @@ pub mod Facts
 pub mod Sums
 pub mod Merged
 pub mod Sides
+pub mod Globals
 pub mod Recipe
 pub mod Codes
 pub mod Problem

@@ -1,5 +1,5 @@
 -- The problem of a model: names, initial domains, the parts of each constraint, and the goal.
-use Rattle.std.specs.Prelude.{ℕ, ◌+◌, ◌==◌, Bool, true, false, not, ◌&&◌, ◌||◌, if◌then◌else◌, Option, Some, None, List, [], ◌∷◌, filter, map, ℤ}
+use Rattle.std.specs.Prelude.{ℕ, ◌+◌, ◌==◌, Bool, true, false, not, ◌&&◌, ◌||◌, Option, List, [], ◌∷◌, filter, map, ℤ}
 use Rattle.std.specs.List.{list_all, list_any, range_with_len}
 use Rattle.std.specs.Option.{option_map_or}
 use Rattle.std.specs.Ordering.{int_eq}
@@ -20,7 +20,7 @@ use Rattle.fz_model.specs.declared.model.ModelGoal.TheVariants as goal
 use Rattle.fz_sat.specs.Args.{term_of}
 use Rattle.fz_sat.specs.Satisfies.{is_of_type}
 use Rattle.dp_lower.specs.Variables.{names_of, own_places}
-use Rattle.dp_lower.specs.Recipe.{args_in, is_built, recipe}
+use Rattle.dp_lower.specs.Recipe.{args_in, recipe}
 use Rattle.dp_lower.specs.Small.{small_numbers}
 
 -- ---- initial domains
@@ -83,8 +83,3 @@ problem_of m = record {
   parts = map (parts_of m.items) m.constraints;
   goal = goal_in m.items m.goal;
 }
-
--- the number, counted on from n, of the first of these constraints whose rule is not built
-abbrev pub first_unbuilt : ℕ → List Constraint → Option ℕ
-first_unbuilt n [] = None
-first_unbuilt n (c ∷ constraints) = if option_map_or is_built (constraint_of c.name) true then first_unbuilt (n + 1) constraints else Some n

@@ -1,5 +1,5 @@
 -- The table: the parts of each kind of constraint, in order.
-use Rattle.std.specs.Prelude.{ℕ, nat_le, Bool, true, false, if◌then◌else◌, List, [], ◌∷◌, ◌++◌, length, map, ℤ, pos, negsuc}
+use Rattle.std.specs.Prelude.{ℕ, nat_le, if◌then◌else◌, List, [], ◌∷◌, ◌++◌, length, map, ℤ, pos, negsuc}
 use Rattle.dp_domain.specs.declared.term.Term.{Term}
 use Rattle.dp_domain.specs.declared.term.Term.TheVariants.{Var, Const}
 use Rattle.dp_parts.specs.declared.part.Part.{Part}
@@ -9,6 +9,7 @@ use Rattle.fz_model.specs.declared.model.Expr.{Expr}
 use Rattle.fz_model.specs.declared.model.Item.{Item}
 use Rattle.fz_model.specs.declared.model.SetText.{SetText}
 use Rattle.fz_sat.specs.Args.{arg_set, arg_term, arg_terms, is_in_set}
+use Rattle.dp_lower.specs.Globals.{all_different, scheduled, selected}
 use Rattle.dp_lower.specs.Sides.{always, is_above, is_at_most, is_equal, is_member, is_no_member, is_other, nogood, nogoods, reified}
 use Rattle.dp_lower.specs.Sums.{Sum, number_in, sum_of, weighted}
 use Rattle.dp_lower.specs.declared.literal.Literal.{Literal}
@@ -126,16 +127,11 @@ recipe of.BoolClause a = nogood (clause_row (a.terms 0) (a.terms 1))
 recipe of.BoolClauseReif a = nogoods (clause_rows (a.terms 0) (a.terms 1) (a.term 2))
 recipe of.SetIn a = member (a.term 0) (a.set 1)
 recipe of.SetInReif a = member_reified (a.term 0) (a.set 1) (a.term 2)
-recipe _ a = []
-
--- whether the rule of the kind is built
-abbrev pub is_built : ConstraintKind → Bool
-is_built of.ArrayIntElement = false
-is_built of.ArrayVarIntElement = false
-is_built of.ArrayBoolElement = false
-is_built of.ArrayVarBoolElement = false
-is_built of.AllDifferentInt = false
-is_built of.FznAllDifferentInt = false
-is_built of.Cumulative = false
-is_built of.FznCumulative = false
-is_built _ = true
+recipe of.ArrayIntElement a = selected (a.term 0) (a.terms 1) (a.term 2)
+recipe of.ArrayVarIntElement a = selected (a.term 0) (a.terms 1) (a.term 2)
+recipe of.ArrayBoolElement a = selected (a.term 0) (a.terms 1) (a.term 2)
+recipe of.ArrayVarBoolElement a = selected (a.term 0) (a.terms 1) (a.term 2)
+recipe of.AllDifferentInt a = all_different (a.terms 0)
+recipe of.FznAllDifferentInt a = all_different (a.terms 0)
+recipe of.Cumulative a = scheduled (a.terms 0) (a.terms 1) (a.terms 2) (a.term 3)
+recipe of.FznCumulative a = scheduled (a.terms 0) (a.terms 1) (a.terms 2) (a.term 3)

@@ -6,7 +6,10 @@ ghost use Rattle.dp_parts.specs.Parts.{ClashesPart, MeetsPart, face_of, label_of
 ghost use Rattle.dp_parts.specs.PartLaws.{part_deciding, part_exact, part_lawful, part_sound};
 
 use dp_domain::{Atom, Found, Memory, Rule, State, Steps, Test, VarId};
+use dp_rule_alldiff::AllDiff;
 use dp_rule_clause::{Nogood, Within};
+use dp_rule_cumulative::Cumulative;
+use dp_rule_element::Element;
 use dp_rule_linear::{LinLe, LinNe};
 use std::marker::Model;
 use std::sync::ledger::Ledger;
@@ -18,6 +21,9 @@ pub enum Part {
     LinNe(LinNe),
     Nogood(Nogood),
     Within(Within),
+    Element(Element),
+    Cumulative(Cumulative),
+    AllDiff(AllDiff),
 }
 
 impl Test for Part {
@@ -33,6 +39,9 @@ impl Test for Part {
             Part::LinNe(part) => part.scope_len(),
             Part::Nogood(part) => part.scope_len(),
             Part::Within(part) => part.scope_len(),
+            Part::Element(part) => part.scope_len(),
+            Part::Cumulative(part) => part.scope_len(),
+            Part::AllDiff(part) => part.scope_len(),
         }
     }
 
@@ -42,6 +51,9 @@ impl Test for Part {
             Part::LinNe(part) => part.scope_at(place),
             Part::Nogood(part) => part.scope_at(place),
             Part::Within(part) => part.scope_at(place),
+            Part::Element(part) => part.scope_at(place),
+            Part::Cumulative(part) => part.scope_at(place),
+            Part::AllDiff(part) => part.scope_at(place),
         }
     }
 
@@ -51,6 +63,9 @@ impl Test for Part {
             Part::LinNe(part) => part.is_point(var, value),
             Part::Nogood(part) => part.is_point(var, value),
             Part::Within(part) => part.is_point(var, value),
+            Part::Element(part) => part.is_point(var, value),
+            Part::Cumulative(part) => part.is_point(var, value),
+            Part::AllDiff(part) => part.is_point(var, value),
         }
     }
 
@@ -60,6 +75,9 @@ impl Test for Part {
             Part::LinNe(part) => part.clash(state),
             Part::Nogood(part) => part.clash(state),
             Part::Within(part) => part.clash(state),
+            Part::Element(part) => part.clash(state),
+            Part::Cumulative(part) => part.clash(state),
+            Part::AllDiff(part) => part.clash(state),
         }
     }
 
@@ -83,6 +101,9 @@ impl Rule for Part {
             Part::LinNe(part) => part.next(state, steps),
             Part::Nogood(part) => part.next(state, steps),
             Part::Within(part) => part.next(state, steps),
+            Part::Element(part) => part.next(state, steps),
+            Part::Cumulative(part) => part.next(state, steps),
+            Part::AllDiff(part) => part.next(state, steps),
         }
     }
 
@@ -97,6 +118,9 @@ impl Rule for Part {
             Part::LinNe(part) => part.explain(initial, now, target),
             Part::Nogood(part) => part.explain(initial, now, target),
             Part::Within(part) => part.explain(initial, now, target),
+            Part::Element(part) => part.explain(initial, now, target),
+            Part::Cumulative(part) => part.explain(initial, now, target),
+            Part::AllDiff(part) => part.explain(initial, now, target),
         }
     }
 }
@@ -110,6 +134,9 @@ pub fn label(part: &Part) -> &'static str
         Part::LinNe(_) => "not_equal",
         Part::Nogood(_) => "clause",
         Part::Within(_) => "domain",
+        Part::Element(_) => "element",
+        Part::Cumulative(_) => "time_table",
+        Part::AllDiff(_) => "all_different",
     }
 }
 
