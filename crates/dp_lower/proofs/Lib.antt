@@ -13,3 +13,4 @@ pub mod RecipeCover
 pub mod ProblemLaws
 pub mod ProperLaws
 pub mod SideSteps
+pub mod WeightLaws

@@ -44,7 +44,7 @@ number_in (Var x) = pos 0
 
 -- the terms, each with its coefficient
 abbrev pub weighted : List Term → List Term → List (ℤ × Term)
-weighted coefficients terms = zip (map number_in coefficients) terms
+weighted coefficients terms = map (λ p. (number_in p.0, p.1)) (zip coefficients terms)
 
 -- each coefficient and the number negated
 abbrev pub opposite : Sum → Sum

@@ -6,5 +6,6 @@ mod globals;
 mod literal;
 mod sides;
 mod sum;
+mod terms;
 
 pub use literal::Literal;
