@@ -14,7 +14,11 @@ use Rattle.dp_rule_cumulative.specs.Refusals.{IsAllowed, IsProper}
 use Rattle.dp_rule_cumulative.specs.Schedules as schedule
 use Rattle.dp_rule_cumulative.specs.declared.task.Task as planned
 use Rattle.fz_sat.specs.Globals.{AreDistinct, IsEntryAt, KeepsCapacity, Task, end_of, runs_at, task_of, tasks_of, total, usage_at}
-use Rattle.dp_lower.specs.Facts.{IsAmountConst}
+use Rattle.fz_model.specs.declared.kinds.ArgKind.TheVariants as arg
+use Rattle.fz_model.specs.declared.model.Expr.{Expr}
+use Rattle.fz_model.specs.declared.model.Item.{Item}
+use Rattle.fz_sat.specs.Args.{arg_term, arg_terms}
+use Rattle.dp_lower.specs.Facts.{AreFit, ArePaired, IsAmountConst}
 use Rattle.dp_lower.specs.Globals.{all_different, given_of, numbers_in, scheduled, selected}
 use Rattle.dp_lower.specs.Sums.{number_in}
 use Rattle.dp_lower.proofs.SideLaws.{AreMet}
@@ -137,7 +141,7 @@ allowed_at (t ∷ terms) zero each = amount_allowed t each.0
 allowed_at (t ∷ terms) (suc k) each = allowed_at terms k each.1
 
 -- amounts in arrays as long as the starts make a schedule
-pub proper : (starts durations uses : List Term) (capacity : Term) → length starts ≤ 2000000 → length durations ≡ length starts → length uses ≡ length starts → Each IsAmountConst durations → Each IsAmountConst uses → IsAmountConst capacity →
+proper : (starts durations uses : List Term) (capacity : Term) → length starts ≤ 2000000 → length durations ≡ length starts → length uses ≡ length starts → Each IsAmountConst durations → Each IsAmountConst uses → IsAmountConst capacity →
     IsProper (given_of starts durations uses capacity)
 proper starts durations uses capacity few e f h g amount = record {
   even = record { durations = length-map durations number_in ∙ e; uses = length-map uses number_in ∙ f };
@@ -145,3 +149,12 @@ proper starts durations uses capacity few e f h g amount = record {
   good = λ k below. record { duration = allowed_at durations k h; usage = allowed_at uses k g };
   capacity = amount_allowed capacity amount;
 }
+
+-- so do the arguments of a cumulative constraint
+pub proper_args : (items : List Item) (args : List Expr) (starts : List Term) (durations uses : List ℤ) (capacity : ℤ) → AreFit items args 0 (arg.Ints ∷ arg.Amounts ∷ arg.Amounts ∷ arg.Amount ∷ []) →
+    ArePaired items args (arg.Ints ∷ arg.Amounts ∷ arg.Amounts ∷ arg.Amount ∷ []) → starts ≡ arg_terms items args 0 → durations ≡ numbers_in (arg_terms items args 1) → uses ≡ numbers_in (arg_terms items args 2) → capacity ≡ number_in (arg_term items args 3) →
+    IsProper (schedule.given starts durations uses capacity)
+proper_args items args starts durations uses capacity fit paired e f g h =
+    let equal = paired refl in
+    let made = proper (arg_terms items args 0) (arg_terms items args 1) (arg_terms items args 2) (arg_term items args 3) fit.0.few equal.0 equal.1.0 fit.1.0.each fit.1.1.0.each fit.1.1.1.0 in
+    rw (e, f, g, h) made
