@@ -14,3 +14,4 @@ pub mod ProblemLaws
 pub mod ProperLaws
 pub mod SideSteps
 pub mod WeightLaws
+pub mod SetsLaws

@@ -3,6 +3,7 @@
 
 mod booleans;
 mod globals;
+mod intervals;
 mod literal;
 mod sides;
 mod sum;
