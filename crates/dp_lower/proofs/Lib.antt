@@ -14,3 +14,4 @@ pub mod WeightLaws
 pub mod CoverLaws
 pub mod RecipeCover
 pub mod ProblemLaws
+pub mod NameLaws

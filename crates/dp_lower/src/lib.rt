@@ -3,6 +3,9 @@
 
 mod booleans;
 mod literal;
+mod integers;
+mod names;
+mod rows;
 mod sides;
 mod sum;
 mod terms;
