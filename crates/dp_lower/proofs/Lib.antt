@@ -15,3 +15,4 @@ pub mod CoverLaws
 pub mod RecipeCover
 pub mod ProblemLaws
 pub mod NameLaws
+pub mod TypeLaws

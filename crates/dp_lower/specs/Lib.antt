@@ -8,3 +8,4 @@ pub mod Globals
 pub mod Recipe
 pub mod Codes
 pub mod Problem
+pub mod Cuts

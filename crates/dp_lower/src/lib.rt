@@ -9,5 +9,6 @@ mod rows;
 mod sides;
 mod sum;
 mod terms;
+mod types;
 
 pub use literal::Literal;
