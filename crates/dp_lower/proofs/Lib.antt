@@ -15,3 +15,5 @@ pub mod ProperLaws
 pub mod SideSteps
 pub mod WeightLaws
 pub mod SetsLaws
+pub mod NameLaws
+pub mod TypeLaws

@@ -1,14 +1,17 @@
 -- The variables and coefficients of weighted terms.
-use Rattle.std.proofs.Common.{◌≡◌, ℕ, ◌≤◌, Bool, true, false, List, [], ◌∷◌, length, map, ℤ, pos, refl, sym, ◌∙◌, ap, subst, arith}
-use Rattle.std.specs.Prelude.{nat_lt}
+use Rattle.std.proofs.Common.{◌≡◌, ℕ, ◌≤◌, Bool, true, false, List, [], ◌∷◌, length, map, Result, Ok, Err, ℤ, pos, refl, sym, ◌∙◌, ap, subst, arith}
+use Rattle.std.specs.Prelude.{nat_lt, IfOk}
 use Rattle.std.specs.List.{zip}
+use Rattle.std.proofs.lemmas.Bool.{both_ways}
 use Rattle.dp_base.specs.Lists.{Each}
+use Rattle.dp_base.proofs.Lists.{Each-among}
 use Rattle.dp_domain.specs.Sets.{IsSmall}
 use Rattle.dp_domain.specs.declared.term.Term.{Term}
 use Rattle.dp_domain.specs.declared.term.Term.TheVariants.{Var, Const}
 use Rattle.dp_rule_linear.specs.Forms.{variables}
 use Rattle.fz_model.specs.declared.model.Item.{Item}
-use Rattle.dp_lower.specs.Facts.{IsIntTerm, IsSmallConst}
+use Rattle.dp_lower.specs.Codes.{IsApartFrom}
+use Rattle.dp_lower.specs.Facts.{IsBoolTerm, IsIntTerm, IsSmallConst}
 use Rattle.dp_lower.specs.Sums.{Sum, number_in, plus, plus_all, sum_of, weighted, with_term}
 use Rattle.dp_lower.specs.Variables.{is_boolean}
 
@@ -75,3 +78,19 @@ pub length-weighted : (cs ts : List Term) → length (weighted cs ts) ≤ length
 length-weighted [] ts = omega arith
 length-weighted (c ∷ cs) [] = omega arith
 length-weighted (c ∷ cs) (t ∷ ts) = let h = length-weighted cs ts in omega arith
+
+-- so they are few
+pub few_pairs : (cs ts : List Term) → length cs ≤ 2000000 → length (weighted cs ts) ≤ 2000000
+few_pairs cs ts h = let k = length-weighted cs ts in omega arith
+
+-- ---- conditions
+
+-- a Boolean term is apart from variables that are not Boolean
+pub apart_boolean : (items : List Item) (r : Term) (xs : List ℕ) → IsBoolTerm items r → Each (λ x. is_boolean items x ≡ false) xs → IsApartFrom r xs
+apart_boolean items (Var x) xs h each = λ here. both_ways (is_boolean items x) (Each-among (λ y. is_boolean items y ≡ false) xs each x here) h.1
+apart_boolean items (Const v) xs h each = tt
+
+-- what holds of a value in place of another fact
+pub ok_map : {T E : Type 0} (r : Result T E) (P Q : T → Type 0) → ((x : T) → P x → Q x) → IfOk r P → IfOk r Q
+ok_map (Ok x) P Q f h = f x h
+ok_map (Err e) P Q f h = tt

@@ -9,3 +9,4 @@ pub mod Intervals
 pub mod Recipe
 pub mod Codes
 pub mod Problem
+pub mod Cuts

@@ -5,8 +5,12 @@ mod booleans;
 mod globals;
 mod intervals;
 mod literal;
+mod integers;
+mod names;
+mod rows;
 mod sides;
 mod sum;
 mod terms;
+mod types;
 
 pub use literal::Literal;
