@@ -8,11 +8,10 @@ ghost use Rattle.fz_sat.specs.Args.{is_in_set};
 ghost use Rattle.dp_lower.specs.Intervals.{clipped, clipped_set, gaps_from, interval};
 ghost use Rattle.dp_lower.specs.Small.{small_numbers};
 
+use crate::types::LARGEST;
 use dp_domain::{Dom, Memory};
 use fz_model::SetText;
 use std::alloc::Global;
-
-const LARGEST: i64 = 1_000_000_000;
 
 /// The numbers of the set that are within ±10^9.
 pub fn members(alloc: Global, set: &SetText) -> Result<Dom, Memory>

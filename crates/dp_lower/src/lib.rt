@@ -8,6 +8,7 @@ mod literal;
 mod integers;
 mod names;
 mod rows;
+mod sets;
 mod sides;
 mod sum;
 mod terms;
