@@ -11,6 +11,7 @@ mod rows;
 mod sets;
 mod sides;
 mod sum;
+mod table;
 mod terms;
 mod types;
 
