@@ -3,6 +3,7 @@
 
 mod booleans;
 mod literal;
+mod domains;
 mod integers;
 mod names;
 mod rows;
