@@ -16,3 +16,4 @@ pub mod RecipeCover
 pub mod ProblemLaws
 pub mod NameLaws
 pub mod TypeLaws
+pub mod CutLaws

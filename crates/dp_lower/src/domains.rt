@@ -1,6 +1,6 @@
 //! What a model's variables may be at first.
 
-ghost use Rattle.std.specs.Prelude.{◌≡◌, ℕ, ◌<◌, ◌++◌, ◌&&◌, [], ◌∷◌, if◌then◌else◌, true, IfOk, OnOk, MatchOption, filter, length};
+ghost use Rattle.std.specs.Prelude.{◌≡◌, ℕ, ◌<◌, ◌++◌, ◌&&◌, [], ◌∷◌, if◌then◌else◌, true, IfOk, OnOk, MatchOption, filter, length, slice_set};
 ghost use Rattle.std.specs.Option.{option_map_or};
 ghost use Rattle.dp_base.specs.Lists.{Each};
 ghost use Rattle.dp_domain.specs.States.{values};
@@ -105,12 +105,30 @@ fn cut_by(
     match item {
         Item::Var {
             kind, value, var, ..
-        } => cut_declared(alloc, items, &mut sets[*var as usize], kind, *value),
+        } => cut_declared_at(alloc, items, sets, *var as usize, kind, *value),
         Item::Vars { kind, elements, .. } => {
             cut_elements(alloc, items, sets, kind, elements.as_slice())
         }
         _ => Ok(()),
     }
+}
+
+/// Keeps of the set at the place the numbers of the type that fit the definition.
+fn cut_declared_at(
+    alloc: Global,
+    items: &[Item],
+    sets: &mut Vec<Dom>,
+    place: usize,
+    kind: &VarType,
+    value: Option<Basic>,
+) -> Result<(), Memory>
+    requires small { IsSmallType kind.now }
+    requires defined { MatchOption value (Unit {0}) (λ b. IsSmallOrVar (term_of items.now b)) }
+    requires place { place < length sets.old.items }
+    ensures { OnOk result (sets.new.items ≡ slice_set sets.old.items place (filter (λ v. is_of_type kind.now v && option_map_or (λ b. fits v (term_of items.now b)) value true) (values sets.old.items place))) }
+{
+    let set = &mut sets[place];
+    cut_declared(alloc, items, set, kind, value)
 }
 
 /// Keeps the numbers of the type that fit the definition.
@@ -135,8 +153,9 @@ fn cut_defined(items: &[Item], set: &mut Dom, value: Option<Basic>)
     requires { MatchOption value (Unit {0}) (λ b. IsSmallOrVar (term_of items.now b)) }
     ensures { set.new ≡ filter (λ v. option_map_or (λ b. fits v (term_of items.now b)) value true) set.old }
 {
-    if let Some(basic) = value {
-        cut_fitting(set, term_of(items, basic));
+    match value {
+        Some(basic) => cut_fitting(set, term_of(items, basic)),
+        None => (),
     }
 }
 
@@ -182,7 +201,22 @@ fn cut_element(
     ensures { OnOk result (IsCutBy (typed_in items.now (element ∷ []) kind.now) sets.old.items sets.new.items) }
 {
     match term_of(items, element) {
-        Term::Var(var) => cut(alloc, &mut sets[var.0 as usize], kind),
+        Term::Var(var) => cut_at(alloc, sets, var.0 as usize, kind),
         Term::Const(_) => Ok(()),
     }
+}
+
+/// Keeps of the set at the place the numbers of the type.
+fn cut_at(
+    alloc: Global,
+    sets: &mut Vec<Dom>,
+    place: usize,
+    kind: &VarType,
+) -> Result<(), Memory>
+    requires small { IsSmallType kind.now }
+    requires place { place < length sets.old.items }
+    ensures { OnOk result (sets.new.items ≡ slice_set sets.old.items place (filter (is_of_type kind.now) (values sets.old.items place))) }
+{
+    let set = &mut sets[place];
+    cut(alloc, set, kind)
 }
