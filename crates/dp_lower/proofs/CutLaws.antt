@@ -321,3 +321,20 @@ begun_more items k i sets sets' whole h e f so_far =
 
 pub begun_all : (items : List Item) (k : ℕ) (sets whole : Domains) → length items ≤ k → sets ++ own_sets items (drop k items) ≡ whole → sets ≡ whole
 begun_all items k sets whole h so_far = sym (append-nil sets) ∙ ap (λ is. sets ++ own_sets items is) (sym (drop_all k items h)) ∙ so_far
+
+-- ---- one item
+
+pub item_cut : (items : List Item) (i : Item) (name : List ℕ) (kind : VarType) (output : Bool) (value : Option Basic) (var : ℕ) (old new : Domains) → i ≡ item.Var name kind output value var → var < length old →
+    new ≡ slice_set old var (filter (λ v. is_of_type kind v && option_map_or (λ b. fits v (term_of items b)) value true) (values old var)) → IsCutBy (λ x v. allows items x v i) old new
+item_cut items i name kind output value var old new e h f =
+    rw e (subst (λ (d : Domains). IsCutBy (λ x v. allows items x v (item.Var name kind output value var)) old d) (sym f)
+    (cut_set old var (λ v. is_of_type kind v && option_map_or (λ b. fits v (term_of items b)) value true) h))
+
+pub var_below_by : (i : Item) (name : List ℕ) (kind : VarType) (output : Bool) (value : Option Basic) (var n : ℕ) → i ≡ item.Var name kind output value var → IsWithVar (λ x. x < n) i → var < n
+var_below_by i name kind output value var n e h = subst (IsWithVar (λ x. x < n)) e h
+
+-- which default stands behind the end does not matter before it
+pub any_default : (xs : List Basic) (i : ℕ) (d e : Basic) → i < length xs → get_or xs i d ≡ get_or xs i e
+any_default [] i d e h = absurd (omega arith)
+any_default (x ∷ xs) zero d e h = refl
+any_default (x ∷ xs) (suc i) d e h = any_default xs i d e (omega arith)

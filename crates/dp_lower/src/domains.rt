@@ -109,7 +109,10 @@ fn cut_by(
         Item::Vars { kind, elements, .. } => {
             cut_elements(alloc, items, sets, kind, elements.as_slice())
         }
-        _ => Ok(()),
+        Item::Int { .. } => Ok(()),
+        Item::Bool { .. } => Ok(()),
+        Item::Set { .. } => Ok(()),
+        Item::Consts { .. } => Ok(()),
     }
 }
 
