@@ -3,6 +3,8 @@
 
 mod line;
 mod lists;
+mod text;
 
 pub use line::{Claim, Line};
 pub use lists::{Literals, Numbers};
+pub use text::line_text;

@@ -1,18 +1,24 @@
 -- What the parts of the constraints on whole arrays say is what the constraints mean.
-use Rattle.std.proofs.Common.{◌≡◌, ℕ, zero, suc, ◌+◌, ◌≤◌, Bool, true, false, cond, Option, Some, None, List, [], ◌∷◌, map, ℤ, pos, negsuc, ◌+ℤ◌, ◌≤ℤ◌, refl, sym, ◌∙◌, ap, subst, arith}
+use Rattle.std.proofs.Common.{◌≡◌, ℕ, zero, suc, ◌+◌, ◌≤◌, Bool, true, false, cond, Option, Some, None, List, [], ◌∷◌, length, get_or, map, ℤ, pos, negsuc, ◌+ℤ◌, ◌≤ℤ◌, refl, sym, ◌∙◌, ap, subst, arith}
 use Rattle.std.specs.Prelude.{◌&&◌, ◌↔◌, int_le, int_lt, slice_get, unsigned_abs}
 use Rattle.std.specs.List.{filter, sum_by, zip}
 use Rattle.std.proofs.lemmas.Int.{ints}
 use Rattle.std.proofs.lemmas.List.Sums.{sum_by-cons}
+use Rattle.std.proofs.lemmas.List.{length-map}
 use Rattle.dp_base.specs.Lists.{Each}
 use Rattle.dp_domain.specs.Terms.{term_at}
 use Rattle.dp_domain.specs.declared.term.Term.{Term}
 use Rattle.dp_domain.specs.declared.term.Term.TheVariants.{Var, Const}
 use Rattle.dp_rule_alldiff.specs.AllDifferent as crowd
+use Rattle.dp_rule_cumulative.specs.Refusals.{IsAllowed, IsProper}
 use Rattle.dp_rule_cumulative.specs.Schedules as schedule
 use Rattle.dp_rule_cumulative.specs.declared.task.Task as planned
 use Rattle.fz_sat.specs.Globals.{AreDistinct, IsEntryAt, KeepsCapacity, Task, end_of, runs_at, task_of, tasks_of, total, usage_at}
-use Rattle.dp_lower.specs.Facts.{IsAmountConst}
+use Rattle.fz_model.specs.declared.kinds.ArgKind.TheVariants as arg
+use Rattle.fz_model.specs.declared.model.Expr.{Expr}
+use Rattle.fz_model.specs.declared.model.Item.{Item}
+use Rattle.fz_sat.specs.Args.{arg_term, arg_terms}
+use Rattle.dp_lower.specs.Facts.{AreFit, ArePaired, IsAmountConst}
 use Rattle.dp_lower.specs.Globals.{all_different, given_of, numbers_in, scheduled, selected}
 use Rattle.dp_lower.specs.Sums.{number_in}
 use Rattle.dp_lower.proofs.SideLaws.{AreMet}
@@ -122,3 +128,33 @@ scheduled_means s starts durations uses capacity h g f =
       λ meets t. kept_here (schedule.usage_of (schedule.runs_at s t) tasks) n (usage_at t (meant_tasks s starts durations uses)) (term_at s capacity) (same_usage s t starts durations uses h g) (amount s capacity f) (meets.0 t),
       λ keeps. (λ t. kept_there (schedule.usage_of (schedule.runs_at s t) tasks) n (usage_at t (meant_tasks s starts durations uses)) (term_at s capacity) (same_usage s t starts durations uses h g) (amount s capacity f) (keeps t), tt),
     )
+
+-- ---- what the constructor of a schedule makes sure of
+
+amount_allowed : (t : Term) → IsAmountConst t → IsAllowed (number_in t)
+amount_allowed (Const v) h = h
+amount_allowed (Var x) h = absurd h
+
+allowed_at : (terms : List Term) (k : ℕ) → Each IsAmountConst terms → IsAllowed (get_or (numbers_in terms) k (pos 0))
+allowed_at [] k each = (omega (arith, ints), omega (arith, ints))
+allowed_at (t ∷ terms) zero each = amount_allowed t each.0
+allowed_at (t ∷ terms) (suc k) each = allowed_at terms k each.1
+
+-- amounts in arrays as long as the starts make a schedule
+proper : (starts durations uses : List Term) (capacity : Term) → length starts ≤ 2000000 → length durations ≡ length starts → length uses ≡ length starts → Each IsAmountConst durations → Each IsAmountConst uses → IsAmountConst capacity →
+    IsProper (given_of starts durations uses capacity)
+proper starts durations uses capacity few e f h g amount = record {
+  even = record { durations = length-map durations number_in ∙ e; uses = length-map uses number_in ∙ f };
+  few = few;
+  good = λ k below. record { duration = allowed_at durations k h; usage = allowed_at uses k g };
+  capacity = amount_allowed capacity amount;
+}
+
+-- so do the arguments of a cumulative constraint
+pub proper_args : (items : List Item) (args : List Expr) (starts : List Term) (durations uses : List ℤ) (capacity : ℤ) → AreFit items args 0 (arg.Ints ∷ arg.Amounts ∷ arg.Amounts ∷ arg.Amount ∷ []) →
+    ArePaired items args (arg.Ints ∷ arg.Amounts ∷ arg.Amounts ∷ arg.Amount ∷ []) → starts ≡ arg_terms items args 0 → durations ≡ numbers_in (arg_terms items args 1) → uses ≡ numbers_in (arg_terms items args 2) → capacity ≡ number_in (arg_term items args 3) →
+    IsProper (schedule.given starts durations uses capacity)
+proper_args items args starts durations uses capacity fit paired e f g h =
+    let equal = paired refl in
+    let made = proper (arg_terms items args 0) (arg_terms items args 1) (arg_terms items args 2) (arg_term items args 3) fit.0.few equal.0 equal.1.0 fit.1.0.each fit.1.1.0.each fit.1.1.1.0 in
+    rw (e, f, g, h) made

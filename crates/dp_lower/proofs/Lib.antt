@@ -8,12 +8,13 @@ pub mod RecipeLaws
 pub mod DomainLaws
 pub mod SolutionLaws
 pub mod MergeLaws
-pub mod ProperLaws
-pub mod SideSteps
-pub mod WeightLaws
 pub mod CoverLaws
 pub mod RecipeCover
 pub mod ProblemLaws
+pub mod ProperLaws
+pub mod SideSteps
+pub mod WeightLaws
+pub mod SetsLaws
 pub mod NameLaws
 pub mod TypeLaws
 pub mod CutLaws

@@ -23,5 +23,9 @@ abbrev pub given_of : List Term → List Term → List Term → Term → Given
 given_of starts durations uses capacity = given starts (numbers_in durations) (numbers_in uses) (number_in capacity)
 
 -- the tasks that run at a time use at most the capacity together
+abbrev pub scheduled_by : Given → List Part
+scheduled_by g = Cumulative (schedule_of g) ∷ []
+
+-- so do those of these terms
 abbrev pub scheduled : List Term → List Term → List Term → Term → List Part
-scheduled starts durations uses capacity = Cumulative (schedule_of (given_of starts durations uses capacity)) ∷ []
+scheduled starts durations uses capacity = scheduled_by (given_of starts durations uses capacity)

@@ -5,6 +5,7 @@ pub mod Sums
 pub mod Merged
 pub mod Sides
 pub mod Globals
+pub mod Intervals
 pub mod Recipe
 pub mod Codes
 pub mod Problem

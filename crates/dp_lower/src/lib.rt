@@ -2,11 +2,14 @@
 #![tactic(auto)]
 
 mod booleans;
+mod globals;
+mod intervals;
 mod literal;
 mod domains;
 mod integers;
 mod names;
 mod rows;
+mod sets;
 mod sides;
 mod sum;
 mod terms;

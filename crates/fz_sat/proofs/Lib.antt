@@ -4,3 +4,6 @@ pub mod Sums
 pub mod Wides
 pub mod Distinct
 pub mod Usages
+pub mod Capacity
+pub mod MeaningLaws
+pub mod SatisfiesLaws

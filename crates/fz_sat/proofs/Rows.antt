@@ -1,6 +1,6 @@
 -- Lists of elements and their values; numbers that are compared by their bits.
 use Rattle.std.specs.Prelude.{FitsSigned}
-use Rattle.std.proofs.Common.{◌≡◌, ℕ, zero, suc, Bool, true, false, not, ◌&&◌, ◌||◌, nat_eq, Option, Some, None, List, [], ◌∷◌, map, slice_get, ℤ, pos, negsuc, of_z, to_z, refl, sym, ◌∙◌, ap}
+use Rattle.std.proofs.Common.{◌≡◌, ℕ, zero, suc, Bool, true, false, not, ◌&&◌, ◌||◌, nat_eq, Option, Some, None, List, [], ◌∷◌, map, ℤ, pos, negsuc, of_z, to_z, refl, sym, ◌∙◌, ap}
 use Rattle.std.proofs.lemmas.Int.{to_z-of_z}
 use Rattle.std.proofs.lemmas.Bool.Decides.{Decides-eqb, Decides-int_eq, same_from_decides}
 use Rattle.std.proofs.lemmas.Option.{slice_get-map}
@@ -11,7 +11,7 @@ use mir.Syntax.{Width}
 use Rattle.dp_domain.specs.Terms.{term_at}
 use Rattle.fz_model.specs.declared.model.Basic.{Basic}
 use Rattle.fz_model.specs.declared.model.Item.{Item}
-use Rattle.fz_sat.specs.Args.{term_of, terms_of}
+use Rattle.fz_sat.specs.Args.{terms_of}
 use Rattle.fz_sat.specs.Globals.{entry_at, is_entry_at}
 use Rattle.fz_sat.specs.Satisfies.{value_of}
 

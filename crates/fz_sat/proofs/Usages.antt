@@ -2,16 +2,15 @@
 use Rattle.std.proofs.Common.{◌≡◌, ℕ, ◌+◌, ◌*◌, ◌^◌, ◌<◌, ◌≤◌, min, Bool, true, false, ◌&&◌, if◌then◌else◌, length, get_or, drop, List, [], ◌∷◌, map, ℤ, pos, ◌+ℤ◌, ◌≤ℤ◌, int_le, refl, sym, ◌∙◌, ap, subst, arith}
 use Rattle.std.specs.List.{filter, list_all, zip}
 use Rattle.std.proofs.lemmas.Int.{ints}
-use Rattle.std.proofs.lemmas.List.{at_drop_more, at_drop_all, length-map}
+use Rattle.std.proofs.lemmas.List.{at_drop_more, at_drop_all}
 use Rattle.std.proofs.lemmas.Slice.Zip.{length-zip, get_or-zip}
 use Rattle.fz_model.specs.declared.model.Basic.{Basic}
 use Rattle.fz_model.specs.declared.model.Basic.TheVariants as basic
 use Rattle.fz_model.specs.declared.model.Item.{Item}
 use Rattle.dp_domain.specs.Terms.{term_at}
 use Rattle.fz_sat.specs.Args.{terms_of}
-use Rattle.fz_sat.specs.Globals.{Task, keeps_around, keeps_capacity, runs_at, task_of, tasks_of, total, usage_at}
-use Rattle.fz_sat.specs.Satisfies.{value_of}
-use Rattle.fz_sat.specs.Schedules.{HasTask, element_at, element_tasks, task_at, triple_at, used_by}
+use Rattle.fz_sat.specs.Globals.{Task, keeps_around, keeps_capacity, runs_at, tasks_of, total, usage_at}
+use Rattle.fz_sat.specs.Schedules.{HasTask, element_tasks, task_at, triple_at, used_by}
 use Rattle.fz_sat.specs.Sums.{IsBounded}
 
 -- ---- the tasks of the elements
@@ -61,6 +60,7 @@ usage_first t k tasks = by_case (runs_at t k) k.usage (filter (runs_at t) tasks)
   where
     none_added : (z : ℤ) → z ≡ pos 0 +ℤ z
     none_added z = omega (arith, ints)
+
     by_case : (r : Bool) (u : ℤ) (others : List Task) → total (map (λ (j : Task). j.usage) (if r then k ∷ others else others)) ≡ (if r then k.usage else pos 0) +ℤ total (map (λ (j : Task). j.usage) others)
     by_case true u others = refl
     by_case false u others = none_added (total (map (λ (j : Task). j.usage) others))

@@ -4,3 +4,4 @@ pub mod Meaning
 pub mod Satisfies
 pub mod Sums
 pub mod Schedules
+pub mod Tests

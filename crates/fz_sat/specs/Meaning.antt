@@ -1,5 +1,5 @@
 -- The meaning of each constraint, of the values that its arguments have.
-use Rattle.std.specs.Prelude.{ℕ, ◌≤◌, nat_le, Bool, true, false, not, ◌&&◌, ◌||◌, if◌then◌else◌, IsTrue, List, length, map, ℤ, pos, ◌+ℤ◌, int_le, int_lt}
+use Rattle.std.specs.Prelude.{ℕ, nat_le, Bool, true, false, not, ◌&&◌, ◌||◌, if◌then◌else◌, IsTrue, List, length, map, ℤ, pos, ◌+ℤ◌, int_le, int_lt}
 use Rattle.std.specs.List.{list_all, list_any}
 use Rattle.std.specs.Ordering.{int_eq}
 use Rattle.dp_domain.specs.Terms.{term_at}
@@ -64,7 +64,8 @@ xor_of g = if nat_le 3 g.count then iff (truth g 2) (not (iff (truth g 0) (truth
 
 -- ---- the table
 
--- whether the constraint holds of these values
+-- whether the constraint holds of these values; of an element, of numbers that differ and of a capacity this is a test, which
+-- is proved to be true exactly where the words below hold
 abbrev pub holds : ConstraintKind → Given → Bool
 holds of.IntLinLe g = int_le (sum_of g) (g.number 2)
 holds of.IntLinEq g = int_eq (sum_of g) (g.number 2)
@@ -107,8 +108,7 @@ holds of.FznAllDifferentInt g = are_distinct (g.numbers 0)
 holds of.Cumulative g = schedule_of g
 holds of.FznCumulative g = schedule_of g
 
--- what the constraint says of these values; of an element, of numbers that differ and of a capacity, in words without a
--- test
+-- what the constraint says of these values
 abbrev pub Meaning : ConstraintKind → Given → Type 0
 Meaning of.ArrayIntElement g = IsEntryAt (g.numbers 1) (g.number 0) (g.number 2)
 Meaning of.ArrayVarIntElement g = IsEntryAt (g.numbers 1) (g.number 0) (g.number 2)

@@ -12,14 +12,19 @@ use fz_model::{Basic, Item};
 fn all_on(items: &[Item], values: &[i64], elements: &[Basic]) -> bool
     ensures { result ≡ list_all (λ b. is_on (value_of items.now (valuation values.now) b)) elements.now }
 {
-    elements.iter().all(|element| value_of(items, values, *element) >= 1)
+    elements
+        .iter()
+        .all(|element| value_of(items, values, *element) >= 1)
 }
 
 /// Whether some of the elements holds.
 fn some_on(items: &[Item], values: &[i64], elements: &[Basic]) -> bool
     ensures { result ≡ list_any (λ b. is_on (value_of items.now (valuation values.now) b)) elements.now }
 {
-    elements.iter().copied().any(|element| value_of(items, values, element) >= 1)
+    elements
+        .iter()
+        .copied()
+        .any(|element| value_of(items, values, element) >= 1)
 }
 
 /// Whether each Boolean of the array at the place holds.
@@ -48,5 +53,9 @@ pub fn xor_holds(row: &Row) -> bool
     ensures { result ≡ xor_of (given row.now.items.now row.now.args.now (valuation row.now.values.now)) }
 {
     let differ = row.is_on(0) != row.is_on(1);
-    if row.args.len() >= 3 { row.is_on(2) == differ } else { differ }
+    if row.args.len() >= 3 {
+        row.is_on(2) == differ
+    } else {
+        differ
+    }
 }

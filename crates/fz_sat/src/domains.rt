@@ -44,7 +44,12 @@ pub fn is_kept(items: &[Item], values: &[i64], item: &Item) -> bool
     ensures { result ≡ is_kept items.now (valuation values.now) item.now }
 {
     match item {
-        Item::Var { kind, value, var, .. } => {
+        Item::Var {
+            kind,
+            value,
+            var,
+            ..
+        } => {
             let number = value_of_variable(values, VarId(*var));
             is_of_type(kind, number) && is_defined_as(items, values, number, *value)
         }

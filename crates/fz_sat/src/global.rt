@@ -14,7 +14,9 @@ use fz_model::{Basic, Item};
 fn has_value(items: &[Item], values: &[i64], elements: &[Basic], number: i64) -> bool
     ensures { result ≡ list_any (λ b. int_eq (value_of items.now (valuation values.now) b) number) elements.now }
 {
-    elements.iter().any(|element| value_of(items, values, *element) == number)
+    elements
+        .iter()
+        .any(|element| value_of(items, values, *element) == number)
 }
 
 /// Whether the values of the elements differ at all positions.
@@ -22,7 +24,12 @@ fn values_differ(items: &[Item], values: &[i64], elements: &[Basic]) -> bool
     ensures { result ≡ are_distinct (map (value_of items.now (valuation values.now)) elements.now) }
 {
     for (place, element) in elements.iter().enumerate() {
-        if has_value(items, values, &elements[place + 1..], value_of(items, values, *element)) {
+        if has_value(
+            items,
+            values,
+            &elements[place + 1..],
+            value_of(items, values, *element),
+        ) {
             return false;
         }
     }

@@ -3,18 +3,20 @@
 
 mod args;
 mod booleans;
-
 mod constraints;
 mod domains;
 mod element;
-
-
 mod global;
 mod linear;
+mod models;
 mod row;
 mod schedule;
 mod wide;
 
-
 pub use args::{arg_elements, arg_set, arg_term, is_in_set, term_of};
+pub use models::{objective, satisfies};
 
+#[cfg(test)]
+mod name_tests;
+#[cfg(test)]
+mod tests;

@@ -31,30 +31,24 @@ fn sum(row: &Row) -> i128
 
 /// Whether the sum of the row is at most argument 2.
 pub fn sum_is_at_most(row: &Row) -> bool
-    ensures {
-        let g = given row.now.items.now row.now.args.now (valuation row.now.values.now) in
-        result ≡ int_le (sum_of g) (g.number 2)
-    }
+    ensures { let g = given row.now.items.now row.now.args.now (valuation row.now.values.now) in
+        result ≡ int_le (sum_of g) (g.number 2) }
 {
     sum(row) <= i128::from(row.number(2))
 }
 
 /// Whether the sum of the row equals argument 2.
 pub fn sum_is(row: &Row) -> bool
-    ensures {
-        let g = given row.now.items.now row.now.args.now (valuation row.now.values.now) in
-        result ≡ int_eq (sum_of g) (g.number 2)
-    }
+    ensures { let g = given row.now.items.now row.now.args.now (valuation row.now.values.now) in
+        result ≡ int_eq (sum_of g) (g.number 2) }
 {
     sum(row) == i128::from(row.number(2))
 }
 
 /// Whether the first two numbers sum to the third.
 pub fn plus_holds(row: &Row) -> bool
-    ensures {
-        let g = given row.now.items.now row.now.args.now (valuation row.now.values.now) in
-        result ≡ int_eq (g.number 0 +ℤ g.number 1) (g.number 2)
-    }
+    ensures { let g = given row.now.items.now row.now.args.now (valuation row.now.values.now) in
+        result ≡ int_eq (g.number 0 +ℤ g.number 1) (g.number 2) }
 {
     i128::from(row.number(0)) + i128::from(row.number(1)) == i128::from(row.number(2))
 }

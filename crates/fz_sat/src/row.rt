@@ -36,6 +36,7 @@ pub fn value_of(items: &[Item], values: &[i64], basic: Basic) -> i64
 }
 
 /// The arguments of a constraint, and the numbers of an assignment.
+#[derive(Clone, Copy)]
 pub struct Row<'a> {
     pub items: &'a [Item],
     pub args: &'a [Expr],
@@ -73,30 +74,24 @@ impl<'a> Row<'a> {
 
     /// Whether the value of the element is the number at the place.
     pub fn equals(&self, element: Basic, place: usize) -> bool
-        ensures {
-            let number = (given self.now.items.now self.now.args.now (valuation self.now.values.now)).number place in
-            result ≡ int_eq (value_of self.now.items.now (valuation self.now.values.now) element) number
-        }
+        ensures { let number = (given self.now.items.now self.now.args.now (valuation self.now.values.now)).number place in
+            result ≡ int_eq (value_of self.now.items.now (valuation self.now.values.now) element) number }
     {
         self.value(element) == self.number(place)
     }
 
     /// Whether the numbers at the two places are equal.
     pub fn are_equal(&self, left: usize, right: usize) -> bool
-        ensures {
-            let row = given self.now.items.now self.now.args.now (valuation self.now.values.now) in
-            result ≡ int_eq (row.number left) (row.number right)
-        }
+        ensures { let row = given self.now.items.now self.now.args.now (valuation self.now.values.now) in
+            result ≡ int_eq (row.number left) (row.number right) }
     {
         self.number(left) == self.number(right)
     }
 
     /// Whether the number at the first place is in the set at the second.
     pub fn is_in_set(&self, number: usize, set: usize) -> bool
-        ensures {
-            let row = given self.now.items.now self.now.args.now (valuation self.now.values.now) in
-            result ≡ spec.is_in_set (row.set set) (row.number number)
-        }
+        ensures { let row = given self.now.items.now self.now.args.now (valuation self.now.values.now) in
+            result ≡ spec.is_in_set (row.set set) (row.number number) }
     {
         match arg_set(self.items, self.args, set) {
             Some(set) => is_in_set(set, self.number(number)),

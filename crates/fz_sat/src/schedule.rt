@@ -25,7 +25,9 @@ impl<'a> Schedule<'a> {
     fn len(&self) -> usize
         ensures { result ≡ min (length self.now.starts.now) (min (length self.now.durations.now) (length self.now.uses.now)) }
     {
-        self.starts.len().min(self.durations.len().min(self.uses.len()))
+        self.starts
+            .len()
+            .min(self.durations.len().min(self.uses.len()))
     }
 
     /// The time at which the task starts.
@@ -39,21 +41,18 @@ impl<'a> Schedule<'a> {
     /// The time at which the task no longer runs.
     fn end(&self, place: usize) -> i128
         requires { HasTask self.now.starts.now self.now.durations.now self.now.uses.now place }
-        ensures {
-            let s = valuation self.now.values.now in
-            result ≡ value_of self.now.items.now s (element_at self.now.starts.now place) +ℤ value_of self.now.items.now s (element_at self.now.durations.now place)
-        }
+        ensures { let s = valuation self.now.values.now in
+            result ≡ value_of self.now.items.now s (element_at self.now.starts.now place) +ℤ value_of self.now.items.now s (element_at self.now.durations.now place) }
     {
-        i128::from(self.start(place)) + i128::from(value_of(self.items, self.values, self.durations[place]))
+        i128::from(self.start(place))
+            + i128::from(value_of(self.items, self.values, self.durations[place]))
     }
 
     /// Whether the task runs at the time.
     fn runs_at(&self, time: i128, place: usize) -> bool
         requires { HasTask self.now.starts.now self.now.durations.now self.now.uses.now place }
-        ensures {
-            let task = triple_at self.now.starts.now self.now.durations.now self.now.uses.now place in
-            result ≡ runs_at time (task_at self.now.items.now (valuation self.now.values.now) task)
-        }
+        ensures { let task = triple_at self.now.starts.now self.now.durations.now self.now.uses.now place in
+            result ≡ runs_at time (task_at self.now.items.now (valuation self.now.values.now) task) }
     {
         i128::from(self.start(place)) <= time && time < self.end(place)
     }
@@ -61,10 +60,8 @@ impl<'a> Schedule<'a> {
     /// How much the task uses at the time.
     fn used_by(&self, time: i128, place: usize) -> i64
         requires { HasTask self.now.starts.now self.now.durations.now self.now.uses.now place }
-        ensures {
-            let task = triple_at self.now.starts.now self.now.durations.now self.now.uses.now place in
-            result ≡ used_by time (task_at self.now.items.now (valuation self.now.values.now) task)
-        }
+        ensures { let task = triple_at self.now.starts.now self.now.durations.now self.now.uses.now place in
+            result ≡ used_by time (task_at self.now.items.now (valuation self.now.values.now) task) }
     {
         if self.runs_at(time, place) {
             value_of(self.items, self.values, self.uses[place])
@@ -75,10 +72,8 @@ impl<'a> Schedule<'a> {
 
     /// How much the tasks that run at the time use together.
     fn usage_at(&self, time: i128) -> i128
-        ensures {
-            let s = valuation self.now.values.now in
-            result ≡ usage_at time (element_tasks self.now.items.now s self.now.starts.now self.now.durations.now self.now.uses.now)
-        }
+        ensures { let s = valuation self.now.values.now in
+            result ≡ usage_at time (element_tasks self.now.items.now s self.now.starts.now self.now.durations.now self.now.uses.now) }
     {
         let mut usage = 0;
         for place in 0..self.len() {
@@ -89,10 +84,8 @@ impl<'a> Schedule<'a> {
 
     /// Whether the tasks that run at the time keep the capacity.
     fn keeps_at(&self, time: i128) -> bool
-        ensures {
-            let s = valuation self.now.values.now in
-            result ≡ keeps_at (element_tasks self.now.items.now s self.now.starts.now self.now.durations.now self.now.uses.now) self.now.capacity time
-        }
+        ensures { let s = valuation self.now.values.now in
+            result ≡ keeps_at (element_tasks self.now.items.now s self.now.starts.now self.now.durations.now self.now.uses.now) self.now.capacity time }
     {
         self.usage_at(time) <= i128::from(self.capacity)
     }
@@ -100,22 +93,18 @@ impl<'a> Schedule<'a> {
     /// Whether the tasks keep the capacity where this one starts and where it ends.
     fn keeps_around(&self, place: usize) -> bool
         requires { HasTask self.now.starts.now self.now.durations.now self.now.uses.now place }
-        ensures {
-            let s = valuation self.now.values.now in
+        ensures { let s = valuation self.now.values.now in
             let tasks = element_tasks self.now.items.now s self.now.starts.now self.now.durations.now self.now.uses.now in
             let task = triple_at self.now.starts.now self.now.durations.now self.now.uses.now place in
-            result ≡ keeps_around tasks self.now.capacity (task_at self.now.items.now s task)
-        }
+            result ≡ keeps_around tasks self.now.capacity (task_at self.now.items.now s task) }
     {
         self.keeps_at(i128::from(self.start(place))) && self.keeps_at(self.end(place))
     }
 
     /// Whether the tasks keep the capacity at all times: where none runs, and wherever one starts or ends.
     fn keeps(&self) -> bool
-        ensures {
-            let s = valuation self.now.values.now in
-            result ≡ keeps_capacity (element_tasks self.now.items.now s self.now.starts.now self.now.durations.now self.now.uses.now) self.now.capacity
-        }
+        ensures { let s = valuation self.now.values.now in
+            result ≡ keeps_capacity (element_tasks self.now.items.now s self.now.starts.now self.now.durations.now self.now.uses.now) self.now.capacity }
     {
         if self.capacity < 0 {
             return false;

@@ -7,14 +7,14 @@ ghost use Rattle.fz_sat.specs.Sums.{IsBounded, IsNear, IsReduced, LiesAs, number
 const TURN: i128 = 1 << 126;
 
 /// A number that may exceed 128 bits: so many turns of 2^126, and a rest that is smaller in size than one turn.
-#[derive(Clone, Copy, Debug)]
+#[derive(Clone, Copy)]
 pub struct Wide {
     pub turns: i64,
     pub rest: i128,
 }
 
 impl Wide {
-    /// None.
+    /// Zero.
     pub const ZERO: Wide = Wide { turns: 0, rest: 0 };
 
     /// The sum with one more number.

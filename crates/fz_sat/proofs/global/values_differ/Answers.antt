@@ -1,10 +1,8 @@
 -- All differ where those that are left do.
-use Rattle.std.proofs.Common.{◌≡◌, ◌+◌, ◌-◌, not, ◌&&◌, length, take, drop, of_z, to_z, map, refl, sym, ◌∙◌, ap, arith}
+use Rattle.std.proofs.Common.{◌≡◌, ◌+◌, ◌-◌, not, ◌&&◌, length, drop, of_z, to_z, map, refl, sym, ◌∙◌, ap, arith}
 use Rattle.std.proofs.lemmas.Int.{ints}
 use mir.Syntax.{w64}
 use Rattle.std.specs.Prelude.{false}
-use Rattle.std.specs.List.{list_any}
-use Rattle.std.specs.Ordering.{int_eq}
 use Rattle.fz_model.specs.declared.model.Basic.TheVariants as basic
 use Rattle.fz_sat.specs.Globals.{are_distinct}
 use Rattle.fz_sat.specs.Satisfies.{valuation, value_of}

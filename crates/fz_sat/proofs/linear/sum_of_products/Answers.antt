@@ -1,5 +1,5 @@
 -- Each pair adds its product.
-use Rattle.std.proofs.Common.{◌≡◌, ◌≤◌, ◌<◌, length, min, of_z, to_z, ◌∙◌, subst, arith}
+use Rattle.std.proofs.Common.{◌≡◌, ◌≤◌, ◌<◌, of_z, to_z, ◌∙◌, subst, arith}
 use Rattle.std.proofs.lemmas.Int.{ints}
 use mir.Syntax.{w64, w128}
 use Rattle.fz_model.specs.declared.model.Basic.TheVariants as basic

@@ -1,9 +1,8 @@
 -- Each task adds what it uses at the time.
-use Rattle.std.proofs.Common.{◌≡◌, ◌<◌, ◌≤◌, ◌^◌, ◌+◌, ◌+ℤ◌, of_z, to_z, sym, ◌∙◌, subst, rules, arith}
-use Rattle.std.proofs.lemmas.Int.{ints, to_z-of_z}
+use Rattle.std.proofs.Common.{◌≡◌, ◌<◌, ◌≤◌, ◌^◌, ◌+◌, ◌+ℤ◌, of_z, to_z, sym, subst, rules, arith}
+use Rattle.std.proofs.lemmas.Int.{ints}
 use mir.Syntax.{w128}
 use Rattle.fz_sat.specs.Satisfies.{valuation}
-use Rattle.fz_sat.specs.Sums.{IsBounded}
 use Rattle.fz_sat.proofs.Usages.{IsUsedSoFar, used_all, used_more}
 use Rattle.fz_sat.proofs.schedule.Schedule.usage_at.Goals as goal
 
