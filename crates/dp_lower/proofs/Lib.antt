@@ -17,3 +17,4 @@ pub mod WeightLaws
 pub mod SetsLaws
 pub mod NameLaws
 pub mod TypeLaws
+pub mod CutLaws

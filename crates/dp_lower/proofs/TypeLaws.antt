@@ -1,11 +1,15 @@
 -- Sets of numbers, as the code makes them.
-use Rattle.std.proofs.Common.{◌≡◌, ℕ, ◌^◌, Bool, true, false, List, [], ◌∷◌, map, filter, ℤ, pos, neg_ℤ, ◌≤ℤ◌, refl, sym, ◌∙◌, ap, subst, inl, inr, arith}
-use Rattle.std.specs.Prelude.{◌⊎◌, ◌&&◌, int_le}
+use Rattle.std.proofs.Common.{◌≡◌, ℕ, ◌^◌, Bool, true, false, List, [], ◌∷◌, map, filter, Option, Some, None, Result, Ok, Err, ℤ, pos, neg_ℤ, ◌≤ℤ◌, refl, sym, ◌∙◌, ap, subst, inl, inr, arith}
+use Rattle.std.specs.Prelude.{◌&&◌, ◌↔◌, IfOk, int_le}
+use Rattle.std.specs.List.{list_all}
+use Rattle.std.proofs.lemmas.Bool.Decides.{same_from_decides}
 use Rattle.std.proofs.lemmas.Int.{ints}
 use Rattle.std.proofs.lemmas.Bool.{and_from, and_parts, both_ways, false_from_ne_true}
 use Rattle.dp_base.specs.Lists.{Among, Each}
-use Rattle.dp_base.proofs.Lists.{Among-filter_all, Among-filter_only, Each-among, Each-filter, Each-from_among, list_any-at, list_any-not, list_any-some}
-use Rattle.dp_domain.specs.Sets.{Collects, IsDomain, IsSmall, LiesBetween, LiesInOne, is_among}
+use Rattle.dp_base.proofs.Lists.{Among-filter_all, Among-filter_only, Each-among, Each-filter, Each-from_among, filter-whole, list_any-at, list_any-not, list_any-some}
+use Rattle.dp_domain.specs.Atoms.{Atomic, meets}
+use Rattle.dp_domain.specs.declared.atom.Op.TheVariants.{Ge, Le}
+use Rattle.dp_domain.specs.Sets.{Collects, IsDomain, IsSmall, LiesBetween, LiesInOne, is_among, least}
 use Rattle.dp_domain.proofs.AtomLaws.{le-from_test, same-from_tests, test-from_le, tests-from_same}
 use Rattle.dp_domain.proofs.SetLaws.{IsDomain-filter, IsSmall-among, ascending-same}
 use Rattle.dp_lower.specs.Small.{small_numbers}
@@ -105,3 +109,41 @@ kept_made d set xs kept singles domain domain' f e collects =
 -- the numbers that are kept are small
 pub kept_small : (set xs : List ℤ) → IsDomain set → Each IsSmall (filter (λ v. is_among v set) xs)
 kept_small set xs domain = Each-from_among IsSmall (filter (λ v. is_among v set) xs) (λ v here. IsSmall-among set domain v (among_tested v set (Among-filter_only (λ w. is_among w set) xs v here).1))
+
+-- ---- what the code reads
+
+-- a set cut from below and from above
+pub cut_made : (old mid new : List ℤ) (a b : Atomic) (first last : ℤ) → a ≡ record { var = 0; op = Ge; value = first } → b ≡ record { var = 0; op = Le; value = last } → mid ≡ filter (meets a) old → new ≡ filter (meets b) mid →
+    new ≡ filter (λ v. int_le first v && int_le v last) old
+cut_made old mid new a b first last e f g h =
+    h ∙ ap (λ (c : Atomic). filter (meets c) mid) f ∙ ap (filter (λ v. int_le v last)) (g ∙ ap (λ (c : Atomic). filter (meets c) old) e) ∙ filter_both (λ v. int_le first v) (λ v. int_le v last) old
+
+pub has_made : (r : Bool) (v w : ℤ) (xs : List ℤ) → w ≡ v → (r ≡ true) ↔ Among w xs → r ≡ is_among v xs
+has_made r v w xs e iff =
+    same_from_decides r (is_among v xs) (λ t. subst (λ u. Among u xs) e (iff.0 t), λ here. iff.1 (subst (λ u. Among u xs) (sym e) here)) (among_tested v xs, tested_among v xs)
+
+pub ok_both : {T E : Type 0} (r : Result T E) (P Q R : T → Type 0) → IfOk r P → IfOk r Q → ((x : T) → P x → Q x → R x) → IfOk r R
+ok_both (Ok x) P Q R p q f = f x p q
+ok_both (Err e) P Q R p q f = tt
+
+-- nothing is taken from an empty set
+pub none_least : (xs : List ℤ) (test : ℤ → Bool) → least xs ≡ None → xs ≡ filter test xs
+none_least [] test e = refl
+none_least (x ∷ xs) test e = absurd (some_is_not e)
+  where
+    some_is_not : {v : ℤ} → Some v ≡ None → ⊥
+    some_is_not e = cc
+
+all_pass : (xs : List ℤ) → list_all (λ v. true) xs ≡ true
+all_pass [] = refl
+all_pass (x ∷ xs) = all_pass xs
+
+pub filter_true : (xs : List ℤ) → filter (λ v. true) xs ≡ xs
+filter_true xs = filter-whole (λ v. true) xs (all_pass xs)
+
+-- every small number lies between the least and the greatest
+pub all_small : filter (λ v. int_le (neg_ℤ (pos (10 ^ 9))) v && int_le v (pos (10 ^ 9))) small_numbers ≡ filter (λ v. true) small_numbers
+all_small = sym (small_filter (filter (λ v. true) small_numbers) (λ v. int_le (neg_ℤ (pos (10 ^ 9))) v && int_le v (pos (10 ^ 9))) IsSmall (passing_domain (λ v. true))
+    (record { only = λ v here. (passing_only (λ w. true) v here).0; all = λ v small. passing_all (λ w. true) v small refl })
+    (λ v small. (small, and_from (int_le (neg_ℤ (pos (10 ^ 9))) v) (int_le v (pos (10 ^ 9))) (test-from_le (neg_ℤ (pos (10 ^ 9))) v small.0) (test-from_le v (pos (10 ^ 9)) small.1)))
+    (λ v small e. small))

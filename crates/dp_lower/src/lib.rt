@@ -5,6 +5,7 @@ mod booleans;
 mod globals;
 mod intervals;
 mod literal;
+mod domains;
 mod integers;
 mod names;
 mod rows;

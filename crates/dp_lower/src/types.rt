@@ -2,7 +2,7 @@
 
 ghost use Rattle.std.specs.Prelude.{◌≡◌, ◌&&◌, IfOk, OnOk, filter, int_le, map};
 ghost use Rattle.dp_base.specs.Lists.{Each};
-ghost use Rattle.dp_domain.specs.Sets.{IsDomain, IsSmall, is_among};
+ghost use Rattle.dp_domain.specs.Sets.{IsSmall, is_among};
 ghost use Rattle.fz_sat.specs.Satisfies.{is_of_type};
 ghost use Rattle.dp_lower.specs.Facts.{IsSmallType};
 ghost use Rattle.dp_lower.specs.Small.{small_numbers};
@@ -67,8 +67,7 @@ pub fn one_number(alloc: Global, number: i64) -> Result<Dom, Memory>
 
 /// Keeps the numbers of the type.
 pub fn cut(alloc: Global, set: &mut Dom, kind: &VarType) -> Result<(), Memory>
-    requires small { IsSmallType kind.now }
-    requires domain { IsDomain set.old }
+    requires { IsSmallType kind.now }
     ensures { OnOk result (set.new ≡ filter (is_of_type kind.now) set.old) }
 {
     match kind {
@@ -86,15 +85,25 @@ pub fn cut_range(set: &mut Dom, first: i64, last: i64)
     requires last { IsSmall last }
     ensures { set.new ≡ filter (λ v. int_le first v && int_le v last) set.old }
 {
-    set.exclude(Atom::new(VarId(0), Op::Ge, first).unwrap());
-    set.exclude(Atom::new(VarId(0), Op::Le, last).unwrap());
+    set.exclude(bound(Op::Ge, first));
+    set.exclude(bound(Op::Le, last));
+}
+
+/// The atom by which numbers are cut.
+fn bound(op: Op, number: i64) -> Atom
+    requires { IsSmall number }
+    ensures { result ≡ record { var = 0; op = op; value = number } }
+{
+    Atom::new(VarId(0), op, number).unwrap()
 }
 
 /// The numbers of the set that are in the list.
 fn listed(alloc: Global, set: &Dom, numbers: &[i64]) -> Result<Dom, Memory>
-    requires { IsDomain set.now }
     ensures { IfOk result (λ d. d ≡ filter (λ v. is_among v numbers.now) set.now) }
 {
+    if set.lower().is_none() {
+        return set.copy();
+    }
     let kept = kept(alloc, set, numbers)?;
     let singles = singles(alloc, &kept)?;
     Dom::of(alloc, &singles)
