@@ -12,7 +12,6 @@ mod rows;
 mod sets;
 mod sides;
 mod sum;
-mod table;
 mod terms;
 mod types;
 
