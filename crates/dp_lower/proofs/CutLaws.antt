@@ -25,7 +25,7 @@ use Rattle.fz_model.specs.declared.model.VarType.{VarType}
 use Rattle.fz_sat.specs.Args.{term_of, term_of_item}
 use Rattle.fz_sat.specs.Satisfies.{is_of_type}
 use Rattle.dp_lower.specs.Cuts.{IsCutBy, IsSmallOrVar, IsWithVar, own_sets, typed_in}
-use Rattle.dp_lower.specs.Facts.{AreNumbered, IsBounded, IsBounding, IsDeclared, IsElement, IsNumbered, IsSmallConst}
+use Rattle.fz_facts.specs.Facts.{AreNumbered, IsBounded, IsBounding, IsDeclared, IsElement, IsNumbered, IsSmallConst}
 use Rattle.dp_lower.specs.Problem.{allows, domain_of, domains_of, fits, is_variable, may_be}
 use Rattle.dp_lower.specs.Small.{small_numbers}
 use Rattle.dp_lower.proofs.DomainLaws.{own_count, var_below}

@@ -25,7 +25,7 @@ use Rattle.fz_model.specs.declared.model.VarType.{VarType}
 use Rattle.fz_model.specs.declared.model.VarType.TheVariants as type
 use Rattle.fz_sat.specs.Args.{number_of, term_of, term_of_item}
 use Rattle.fz_sat.specs.Satisfies.{is_kept, is_of_type, value_of}
-use Rattle.dp_lower.specs.Facts.{AreNumbered, IsBounded, IsBounding, IsDeclared, IsElement, IsNumbered, IsSmallConst, IsSmallType}
+use Rattle.fz_facts.specs.Facts.{AreNumbered, IsBounded, IsBounding, IsDeclared, IsElement, IsNumbered, IsSmallConst, IsSmallType}
 use Rattle.dp_lower.specs.Problem.{allows, domain_of, domains_of, fits, is_variable, may_be}
 use Rattle.dp_lower.proofs.SmallLaws.{passing_all, passing_only}
 

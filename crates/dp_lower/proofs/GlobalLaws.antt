@@ -18,7 +18,7 @@ use Rattle.fz_model.specs.declared.kinds.ArgKind.TheVariants as arg
 use Rattle.fz_model.specs.declared.model.Expr.{Expr}
 use Rattle.fz_model.specs.declared.model.Item.{Item}
 use Rattle.fz_sat.specs.Args.{arg_term, arg_terms}
-use Rattle.dp_lower.specs.Facts.{AreFit, ArePaired, IsAmountConst}
+use Rattle.fz_facts.specs.Facts.{AreFit, ArePaired, IsAmountConst}
 use Rattle.dp_lower.specs.Globals.{all_different, given_of, numbers_in, scheduled, selected}
 use Rattle.dp_lower.specs.Sums.{number_in}
 use Rattle.dp_lower.proofs.SideLaws.{AreMet}

@@ -18,3 +18,4 @@ pub mod SetsLaws
 pub mod NameLaws
 pub mod TypeLaws
 pub mod CutLaws
+pub mod LowerLaws

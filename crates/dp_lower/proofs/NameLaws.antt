@@ -11,8 +11,8 @@ use Rattle.fz_model.specs.declared.model.Basic.{Basic}
 use Rattle.fz_model.specs.declared.model.VarType.{VarType}
 use Rattle.fz_model.specs.declared.model.Item.{Item}
 use Rattle.fz_model.specs.declared.model.Item.TheVariants as item
-use Rattle.dp_lower.specs.Facts.{AreApart}
-use Rattle.dp_lower.specs.Variables.{names_of, own_places}
+use Rattle.fz_facts.specs.Facts.{AreApart}
+use Rattle.fz_facts.specs.Declared.{names_of, own_places}
 
 -- ---- one item
 

@@ -24,10 +24,10 @@ use Rattle.fz_model.specs.declared.model.ModelGoal.{ModelGoal}
 use Rattle.fz_model.specs.declared.model.ModelGoal.TheVariants as goal
 use Rattle.fz_model.specs.declared.model.VarType.{VarType}
 use Rattle.fz_sat.specs.Args.{term_of}
-use Rattle.dp_lower.specs.Facts.{AreFit, AreNumbered, IsFitted, IsGoal, IsNumbered, IsVariable, IsWellFormed}
+use Rattle.fz_facts.specs.Facts.{AreFit, AreNumbered, IsFitted, IsGoal, IsNumbered, IsVariable, IsWellFormed}
 use Rattle.dp_lower.specs.Problem.{domains_of, goal_in, parts_of, problem_of, variable_in}
 use Rattle.dp_lower.specs.Recipe.{args_in, recipe}
-use Rattle.dp_lower.specs.Variables.{names_of, own_places}
+use Rattle.fz_facts.specs.Declared.{names_of, own_places}
 use Rattle.dp_lower.proofs.CoverLaws.{AreFine, Each-map, IsCovered, none_fine}
 use Rattle.dp_lower.proofs.DomainLaws.{length-domains_of, own_count, var_below}
 use Rattle.dp_lower.proofs.RecipeCover.{most_parts, recipe_fine}

@@ -13,7 +13,7 @@ use Rattle.fz_model.specs.declared.kinds.ConstraintKind.TheVariants as of
 use Rattle.fz_model.specs.declared.model.Expr.{Expr}
 use Rattle.fz_model.specs.declared.model.Item.{Item}
 use Rattle.fz_sat.specs.Args.{arg_term, arg_terms}
-use Rattle.dp_lower.specs.Facts.{AreFew, AreFit, IsBoolTerm, IsConst, IsIntTerm}
+use Rattle.fz_facts.specs.Facts.{AreFew, AreFit, IsBoolTerm, IsConst, IsIntTerm}
 use Rattle.dp_lower.specs.Recipe.{all_rows, any_rows, args_in, clause_row, clause_rows, difference, excess, limit, linear_sum, other_rows, recipe, rows_by, same_rows, xor_rows}
 use Rattle.dp_lower.specs.Sides.{is_above, is_at_most, is_equal, is_other}
 use Rattle.dp_lower.specs.Sums.{weighted}

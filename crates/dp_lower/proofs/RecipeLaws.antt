@@ -20,7 +20,7 @@ use Rattle.fz_model.specs.declared.model.SetText.{SetText}
 use Rattle.fz_sat.specs.Args.{is_in_set}
 use Rattle.fz_sat.specs.Globals.{weighted_sum}
 use Rattle.fz_sat.specs.Meaning.{Given, Meaning, holds, iff, is_on}
-use Rattle.dp_lower.specs.Facts.{IsAmountConst, IsConst, IsSmallConst}
+use Rattle.fz_facts.specs.Facts.{IsAmountConst, IsConst, IsSmallConst}
 use Rattle.dp_lower.specs.Recipe.{Args, all_rows, any_rows, clause_row, clause_rows, difference, excess, limit, linear_sum, member, member_reified, other_rows, recipe, rows_by, same_rows, xor_rows}
 use Rattle.dp_lower.specs.Sides.{Side, is_above, is_at_most, is_equal, is_member, is_no_member, is_other}
 use Rattle.dp_lower.specs.Sums.{weighted}

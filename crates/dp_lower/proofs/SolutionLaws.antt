@@ -17,7 +17,7 @@ use Rattle.fz_model.specs.declared.model.Item.{Item}
 use Rattle.fz_sat.specs.Args.{arg_term}
 use Rattle.fz_sat.specs.Meaning.{Meaning, given}
 use Rattle.fz_sat.specs.Satisfies.{IsMet, Satisfies}
-use Rattle.dp_lower.specs.Facts.{AreFit, IsFitted, IsIntTerm, IsWellFormed}
+use Rattle.fz_facts.specs.Facts.{AreFit, IsFitted, IsIntTerm, IsWellFormed}
 use Rattle.dp_lower.specs.Problem.{parts_of, problem_of}
 use Rattle.dp_lower.specs.Recipe.{args_in, recipe}
 use Rattle.dp_lower.proofs.DomainLaws.{AreDeclared, kept_within, small_within, within_kept}

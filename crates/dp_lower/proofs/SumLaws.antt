@@ -11,7 +11,7 @@ use Rattle.dp_domain.specs.declared.term.Term.{Term}
 use Rattle.dp_domain.specs.declared.term.Term.TheVariants.{Var, Const}
 use Rattle.dp_rule_linear.specs.Forms.{sum_at}
 use Rattle.fz_sat.specs.Globals.{weighted_sum}
-use Rattle.dp_lower.specs.Facts.{IsConst}
+use Rattle.fz_facts.specs.Facts.{IsConst}
 use Rattle.dp_lower.specs.Sums.{Sum, no_sum, nonzero, number_in, opposite, plus, plus_all, sum_of, weighted, with_term}
 use Rattle.dp_lower.proofs.Products.{times_none, times_opposite, times_plus}
 

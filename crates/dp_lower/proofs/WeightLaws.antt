@@ -11,9 +11,9 @@ use Rattle.dp_domain.specs.declared.term.Term.TheVariants.{Var, Const}
 use Rattle.dp_rule_linear.specs.Forms.{variables}
 use Rattle.fz_model.specs.declared.model.Item.{Item}
 use Rattle.dp_lower.specs.Codes.{IsApartFrom}
-use Rattle.dp_lower.specs.Facts.{IsBoolTerm, IsIntTerm, IsSmallConst}
+use Rattle.fz_facts.specs.Facts.{IsBoolTerm, IsIntTerm, IsSmallConst}
 use Rattle.dp_lower.specs.Sums.{Sum, number_in, plus, plus_all, sum_of, weighted, with_term}
-use Rattle.dp_lower.specs.Variables.{is_boolean}
+use Rattle.fz_facts.specs.Declared.{is_boolean}
 
 -- ---- variables
 

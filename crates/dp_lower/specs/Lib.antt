@@ -1,6 +1,4 @@
 pub mod Small
-pub mod Variables
-pub mod Facts
 pub mod Sums
 pub mod Merged
 pub mod Sides

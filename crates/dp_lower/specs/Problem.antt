@@ -19,7 +19,7 @@ use Rattle.fz_model.specs.declared.model.ModelGoal.{ModelGoal}
 use Rattle.fz_model.specs.declared.model.ModelGoal.TheVariants as goal
 use Rattle.fz_sat.specs.Args.{term_of}
 use Rattle.fz_sat.specs.Satisfies.{is_of_type}
-use Rattle.dp_lower.specs.Variables.{names_of, own_places}
+use Rattle.fz_facts.specs.Declared.{names_of, own_places}
 use Rattle.dp_lower.specs.Recipe.{args_in, recipe}
 use Rattle.dp_lower.specs.Small.{small_numbers}
 

@@ -8,7 +8,7 @@ ghost use Rattle.fz_model.specs.Models.{count_variables, is_own};
 ghost use Rattle.fz_sat.specs.Args.{term_of};
 ghost use Rattle.fz_sat.specs.Satisfies.{is_of_type};
 ghost use Rattle.dp_lower.specs.Cuts.{IsCutBy, IsSmallOrVar, IsWithVar, own_sets, typed_in};
-ghost use Rattle.dp_lower.specs.Facts.{AreNumbered, IsDeclared, IsElement, IsSmallType};
+ghost use Rattle.fz_facts.specs.Facts.{AreNumbered, IsDeclared, IsElement, IsSmallType};
 ghost use Rattle.dp_lower.specs.Problem.{allows, domains_of, fits};
 ghost use Rattle.dp_lower.specs.Small.{small_numbers};
 

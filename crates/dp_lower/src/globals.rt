@@ -5,7 +5,7 @@ ghost use Rattle.dp_rule_cumulative.specs.Refusals.{IsProper};
 ghost use Rattle.dp_rule_cumulative.specs.Schedules.{given};
 ghost use Rattle.fz_model.specs.declared.kinds.ArgKind.TheVariants as arg;
 ghost use Rattle.fz_sat.specs.Args.{terms_of};
-ghost use Rattle.dp_lower.specs.Facts.{AreFit, ArePaired};
+ghost use Rattle.fz_facts.specs.Facts.{AreFit, ArePaired};
 ghost use Rattle.dp_lower.specs.Globals as spec;
 ghost use Rattle.dp_lower.specs.Recipe.{args_in};
 ghost use Rattle.dp_lower.specs.Sums.{number_in};

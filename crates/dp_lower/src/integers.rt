@@ -4,7 +4,7 @@ ghost use Rattle.std.specs.Prelude.{◌≡◌, [], ◌∷◌, IfOk, pos};
 ghost use Rattle.dp_rule_linear.specs.Forms.{IsBounded};
 ghost use Rattle.fz_model.specs.declared.kinds.ArgKind.TheVariants as arg;
 ghost use Rattle.dp_lower.specs.Codes.{opposed, side_of};
-ghost use Rattle.dp_lower.specs.Facts.{AreFit};
+ghost use Rattle.fz_facts.specs.Facts.{AreFit};
 ghost use Rattle.dp_lower.specs.Recipe as spec;
 ghost use Rattle.dp_lower.specs.Recipe.{args_in};
 ghost use Rattle.dp_lower.specs.Sides.{always, is_equal, reified};

@@ -2,12 +2,14 @@
 #![tactic(auto)]
 
 mod booleans;
+mod domains;
 mod globals;
+mod integers;
 mod intervals;
 mod literal;
-mod domains;
-mod integers;
 mod names;
+mod problem;
+mod recipe;
 mod rows;
 mod sets;
 mod sides;
@@ -15,4 +17,4 @@ mod sum;
 mod terms;
 mod types;
 
-pub use literal::Literal;
+pub use problem::lower;

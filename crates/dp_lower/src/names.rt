@@ -3,8 +3,8 @@
 ghost use Rattle.std.specs.Prelude.{◌≡◌, ◌≤◌, ◌++◌, [], ◌∷◌, not, is_none, if◌then◌else◌, IfOk, OnOk, length, map};
 ghost use Rattle.dp_base.specs.Lists.{Among};
 ghost use Rattle.fz_model.specs.Models.{named_variable};
-ghost use Rattle.dp_lower.specs.Facts.{AreApart};
-ghost use Rattle.dp_lower.specs.Variables.{names_of, own_places};
+ghost use Rattle.fz_facts.specs.Facts.{AreApart};
+ghost use Rattle.fz_facts.specs.Declared.{names_of, own_places};
 
 use dp_domain::{Memory, Name, VarId};
 use fz_model::{Basic, Item};

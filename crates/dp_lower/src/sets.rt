@@ -7,7 +7,7 @@ ghost use Rattle.dp_parts.specs.declared.part.Part.TheVariants as part_of;
 ghost use Rattle.fz_model.specs.declared.kinds.ArgKind.TheVariants as arg;
 ghost use Rattle.fz_sat.specs.Args as args_spec;
 ghost use Rattle.dp_lower.specs.Codes.{IsApartFrom};
-ghost use Rattle.dp_lower.specs.Facts.{AreFit};
+ghost use Rattle.fz_facts.specs.Facts.{AreFit};
 ghost use Rattle.dp_lower.specs.Recipe as spec;
 ghost use Rattle.dp_lower.specs.Recipe.{args_in};
 ghost use Rattle.dp_lower.specs.Sides.{is_member, is_no_member, nogood, reified};

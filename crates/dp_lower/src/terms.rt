@@ -5,11 +5,11 @@ ghost use Rattle.dp_base.specs.Lists.{Each};
 ghost use Rattle.dp_domain.specs.Sets.{IsSmall};
 ghost use Rattle.dp_rule_linear.specs.Forms.{IsBounded, variables};
 ghost use Rattle.fz_sat.specs.Args as args_spec;
-ghost use Rattle.dp_lower.specs.Facts.{AreFew, IsIntTerm, IsSmallConst};
+ghost use Rattle.fz_facts.specs.Facts.{AreFew, IsIntTerm, IsSmallConst};
 ghost use Rattle.dp_lower.specs.Merged.{IsMerged};
 ghost use Rattle.dp_lower.specs.Recipe.{args_in, difference, excess, linear_sum};
 ghost use Rattle.dp_lower.specs.Sums.{number_in, weighted};
-ghost use Rattle.dp_lower.specs.Variables.{is_boolean};
+ghost use Rattle.fz_facts.specs.Declared.{is_boolean};
 
 use crate::sum::LinearSum;
 use dp_domain::{Memory, Term};

@@ -4,7 +4,7 @@ ghost use Rattle.std.specs.Prelude.{◌≡◌, ◌&&◌, IfOk, OnOk, filter, int
 ghost use Rattle.dp_base.specs.Lists.{Each};
 ghost use Rattle.dp_domain.specs.Sets.{IsSmall, is_among};
 ghost use Rattle.fz_sat.specs.Satisfies.{is_of_type};
-ghost use Rattle.dp_lower.specs.Facts.{IsSmallType};
+ghost use Rattle.fz_facts.specs.Facts.{IsSmallType};
 ghost use Rattle.dp_lower.specs.Small.{small_numbers};
 
 use dp_domain::{Atom, Dom, Memory, Op, VarId};

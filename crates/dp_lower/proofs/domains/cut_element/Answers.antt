@@ -5,7 +5,7 @@ use Rattle.dp_domain.specs.declared.term.Term.TheVariants.{Var}
 use Rattle.fz_sat.specs.Args.{term_of}
 use Rattle.fz_sat.specs.Satisfies.{is_of_type}
 use Rattle.dp_lower.specs.Cuts.{IsCutBy, typed_in}
-use Rattle.dp_lower.specs.Facts.{IsElement}
+use Rattle.fz_facts.specs.Facts.{IsElement}
 use Rattle.dp_lower.proofs.CutLaws.{element_const, element_cut, on_map}
 use Rattle.dp_lower.proofs.domains.cut_element.Goals as goal
 

@@ -6,7 +6,7 @@ use Rattle.dp_domain.specs.declared.term.Term.{Term}
 use Rattle.dp_rule_linear.specs.Forms.{variables}
 use Rattle.fz_sat.specs.Args.{arg_terms}
 use Rattle.dp_lower.specs.Sums.{Sum, sum_of, weighted}
-use Rattle.dp_lower.specs.Variables.{is_boolean}
+use Rattle.fz_facts.specs.Declared.{is_boolean}
 use Rattle.dp_lower.proofs.WeightLaws.{few_pairs, linear_integers, ok_map, weighted_small}
 use Rattle.dp_lower.proofs.terms.linear_sum.Goals as goal
 
