@@ -15,6 +15,8 @@ mod sets;
 mod sides;
 mod sum;
 mod terms;
+#[cfg(test)]
+mod tests;
 mod types;
 
 pub use problem::lower;
