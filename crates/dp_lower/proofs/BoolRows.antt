@@ -117,11 +117,11 @@ all_by false false = refl
 -- r holds exactly where all hold
 pub all_rows_say : (s : ℕ → ℤ) (r : Term) (terms : List Term) → iff (is_on (term_at s r)) (all_on s terms) ≡ list_all (not_all s) (all_rows terms r)
 all_rows_say s r terms = sym (
-  list_all-append (not_all s) (map (λ a. Holds r ∷ Fails a ∷ []) terms) ((Fails r ∷ map Holds terms) ∷ [])
-  ∙ ap (λ b. b && (not_all s (Fails r ∷ map Holds terms) && true)) (each_then_on s r terms)
-  ∙ ap (λ b. (not (is_on (term_at s r)) || all_on s terms) && (not (not (is_on (term_at s r)) && b) && true)) (holds_are_so s terms)
-  ∙ all_by (is_on (term_at s r)) (all_on s terms)
-)
+    list_all-append (not_all s) (map (λ a. Holds r ∷ Fails a ∷ []) terms) ((Fails r ∷ map Holds terms) ∷ [])
+    ∙ ap (λ b. b && (not_all s (Fails r ∷ map Holds terms) && true)) (each_then_on s r terms)
+    ∙ ap (λ b. (not (is_on (term_at s r)) || all_on s terms) && (not (not (is_on (term_at s r)) && b) && true)) (holds_are_so s terms)
+    ∙ all_by (is_on (term_at s r)) (all_on s terms)
+    )
 
 any_by : (r some : Bool) → ((r || not some) && (not (r && not some) && true)) ≡ iff r some
 any_by true true = refl
@@ -132,11 +132,11 @@ any_by false false = refl
 -- r holds exactly where some holds
 pub any_rows_say : (s : ℕ → ℤ) (r : Term) (terms : List Term) → iff (is_on (term_at s r)) (some_on s terms) ≡ list_all (not_all s) (any_rows terms r)
 any_rows_say s r terms = sym (
-  list_all-append (not_all s) (map (λ a. Fails r ∷ Holds a ∷ []) terms) ((Holds r ∷ map Fails terms) ∷ [])
-  ∙ ap (λ b. b && (not_all s (Holds r ∷ map Fails terms) && true)) (each_else_off s r terms)
-  ∙ ap (λ b. (is_on (term_at s r) || not (some_on s terms)) && (not (is_on (term_at s r) && b) && true)) (fails_are_so s terms)
-  ∙ any_by (is_on (term_at s r)) (some_on s terms)
-)
+    list_all-append (not_all s) (map (λ a. Fails r ∷ Holds a ∷ []) terms) ((Holds r ∷ map Fails terms) ∷ [])
+    ∙ ap (λ b. b && (not_all s (Holds r ∷ map Fails terms) && true)) (each_else_off s r terms)
+    ∙ ap (λ b. (is_on (term_at s r) || not (some_on s terms)) && (not (is_on (term_at s r) && b) && true)) (fails_are_so s terms)
+    ∙ any_by (is_on (term_at s r)) (some_on s terms)
+    )
 
 -- ---- clauses
 
@@ -167,13 +167,13 @@ clause_rows_by false false false = refl
 pub clause_rows_say : (s : ℕ → ℤ) (terms others : List Term) (r : Term) →
     iff (is_on (term_at s r)) (some_on s terms || some_off s others) ≡ list_all (not_all s) (clause_rows terms others r)
 clause_rows_say s terms others r = sym (
-  ap (λ b. not_all s (Holds r ∷ clause_row terms others) && b)
-      (list_all-append (not_all s) (map (λ a. Fails r ∷ Holds a ∷ []) terms) (map (λ b. Fails r ∷ Fails b ∷ []) others))
-  ∙ ap (λ b. not (is_on (term_at s r) && b) && (list_all (not_all s) (map (λ a. Fails r ∷ Holds a ∷ []) terms) && list_all (not_all s) (map (λ b. Fails r ∷ Fails b ∷ []) others))) (clause_so s terms others)
-  ∙ ap (λ b. not (is_on (term_at s r) && (not (some_on s terms) && not (some_off s others))) && (b && list_all (not_all s) (map (λ b. Fails r ∷ Fails b ∷ []) others))) (each_else_off s r terms)
-  ∙ ap (λ b. not (is_on (term_at s r) && (not (some_on s terms) && not (some_off s others))) && ((is_on (term_at s r) || not (some_on s terms)) && b)) (each_else_on s r others)
-  ∙ clause_rows_by (is_on (term_at s r)) (some_on s terms) (some_off s others)
-)
+    ap (λ b. not_all s (Holds r ∷ clause_row terms others) && b)
+    (list_all-append (not_all s) (map (λ a. Fails r ∷ Holds a ∷ []) terms) (map (λ b. Fails r ∷ Fails b ∷ []) others))
+    ∙ ap (λ b. not (is_on (term_at s r) && b) && (list_all (not_all s) (map (λ a. Fails r ∷ Holds a ∷ []) terms) && list_all (not_all s) (map (λ b. Fails r ∷ Fails b ∷ []) others))) (clause_so s terms others)
+    ∙ ap (λ b. not (is_on (term_at s r) && (not (some_on s terms) && not (some_off s others))) && (b && list_all (not_all s) (map (λ b. Fails r ∷ Fails b ∷ []) others))) (each_else_off s r terms)
+    ∙ ap (λ b. not (is_on (term_at s r) && (not (some_on s terms) && not (some_off s others))) && ((is_on (term_at s r) || not (some_on s terms)) && b)) (each_else_on s r others)
+    ∙ clause_rows_by (is_on (term_at s r)) (some_on s terms) (some_off s others)
+    )
 
 -- ---- two Booleans, and three
 
@@ -238,11 +238,11 @@ by_rows false false = refl
 pub rows_by_say : (s : ℕ → ℤ) (r : Term) (rows others : List (List Literal)) (b : Bool) → b ≡ list_all (not_all s) rows → not b ≡ list_all (not_all s) others →
     iff (is_on (term_at s r)) b ≡ list_all (not_all s) (rows_by r rows others)
 rows_by_say s r rows others b e f = sym (
-  list_all-append (not_all s) (map (λ row. Holds r ∷ row) rows) (map (λ row. Fails r ∷ row) others)
-  ∙ ap (λ x. x && list_all (not_all s) (map (λ row. Fails r ∷ row) others)) (rows_on s r rows ∙ ap (λ x. not (is_on (term_at s r)) || x) (sym e))
-  ∙ ap (λ x. (not (is_on (term_at s r)) || b) && x) (rows_off s r others ∙ ap (λ x. is_on (term_at s r) || x) (sym f))
-  ∙ by_rows (is_on (term_at s r)) b
-)
+    list_all-append (not_all s) (map (λ row. Holds r ∷ row) rows) (map (λ row. Fails r ∷ row) others)
+    ∙ ap (λ x. x && list_all (not_all s) (map (λ row. Fails r ∷ row) others)) (rows_on s r rows ∙ ap (λ x. not (is_on (term_at s r)) || x) (sym e))
+    ∙ ap (λ x. (not (is_on (term_at s r)) || b) && x) (rows_off s r others ∙ ap (λ x. is_on (term_at s r) || x) (sym f))
+    ∙ by_rows (is_on (term_at s r)) b
+    )
 
 pub not_other_row : (a b : Bool) → not (not (iff a b)) ≡ (not (a && (not b && true)) && (not (not a && (b && true)) && true))
 not_other_row true true = refl

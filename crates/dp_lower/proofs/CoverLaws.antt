@@ -1,12 +1,12 @@
 -- The variables of each kind's parts are those of the model, and there are few parts.
-use Rattle.std.proofs.Common.{◌≡◌, ℕ, ◌+◌, ◌<◌, ◌≤◌, Bool, true, false, Option, Some, None, List, [], ◌∷◌, ◌++◌, length, map, ℤ, pos, neg_ℤ, negsuc, ◌+ℤ◌, refl, subst, sym, arith, length-append}
-use Rattle.std.specs.Prelude.{nat_lt, nat_le, not, if◌then◌else◌}
-use Rattle.std.specs.List.{filter, filter_map, list_any, zip}
+use Rattle.std.proofs.Common.{◌≡◌, ℕ, ◌+◌, ◌<◌, ◌≤◌, Bool, true, false, Option, Some, None, List, [], ◌∷◌, ◌++◌, length, map, ℤ, pos, neg_ℤ, ◌+ℤ◌, arith, length-append}
+use Rattle.std.specs.Prelude.{nat_lt, not, if◌then◌else◌}
+use Rattle.std.specs.List.{filter_map, list_any, zip}
 use Rattle.std.specs.Ordering.{int_eq}
 use Rattle.std.proofs.lemmas.List.{length-map}
 use Rattle.dp_base.specs.Lists.{Each}
 use Rattle.dp_base.specs.Scopes.{in_order}
-use Rattle.dp_base.proofs.Lists.{Each-among, Each-append, Each-filter, Each-from_among, Each-weaker}
+use Rattle.dp_base.proofs.Lists.{Each-among, Each-append, Each-filter, Each-from_among}
 use Rattle.dp_base.proofs.ScopeLaws.{among_in_order_out}
 use Rattle.dp_domain.specs.Atoms.{Atomic}
 use Rattle.dp_domain.specs.Conditions.{with_condition}
@@ -25,7 +25,7 @@ use Rattle.fz_sat.specs.Meaning.{is_on}
 use Rattle.dp_lower.specs.Globals.{all_different, numbers_in, scheduled, selected}
 use Rattle.dp_lower.specs.Recipe.{all_rows, any_rows, clause_row, clause_rows, member, member_reified, other_rows, rows_by, same_rows}
 use Rattle.dp_lower.specs.Sides.{Side, always, atom_of, is_above, is_at_most, is_equal, is_member, is_no_member, is_other, is_refuted, nogood, nogoods, off, on, passes, reified}
-use Rattle.dp_lower.specs.Sums.{Sum, no_sum, nonzero, number_in, opposite, plus, plus_all, sum_of, weighted, with_term}
+use Rattle.dp_lower.specs.Sums.{Sum, no_sum, nonzero, opposite, plus, plus_all, sum_of, weighted, with_term}
 use Rattle.dp_lower.specs.declared.literal.Literal.{Literal}
 use Rattle.dp_lower.specs.declared.literal.Literal.TheVariants.{Holds, Fails}
 
@@ -191,6 +191,7 @@ nogood_fine n literals each = by (list_any is_refuted literals)
   where
     atoms : List Atomic
     atoms = nogoods_spec.each_once (filter_map atom_of literals)
+
     by : (b : Bool) → AreFine n 1 (if b then [] else Nogood (nogoods_spec.each_once (filter_map atom_of literals)) ∷ [])
     by true = none_fine n 1
     by false = one_fine n (Nogood (nogoods_spec.each_once (filter_map atom_of literals))) (nogood_covered n (nogoods_spec.each_once (filter_map atom_of literals)) (once_of n (filter_map atom_of literals) (atoms_of n literals each)))

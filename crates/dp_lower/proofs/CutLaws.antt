@@ -1,22 +1,21 @@
 -- Sets that are cut item by item are the initial domains.
-use Rattle.std.proofs.Common.{◌≡◌, ℕ, suc, zero, ◌+◌, ◌<◌, ◌≤◌, Bool, true, false, List, [], ◌∷◌, ◌++◌, length, map, filter, get_or, take, drop, Option, Some, None, Result, Ok, Err, ℤ, refl, sym, ◌∙◌, ap, subst, inl, inr, arith}
-use Rattle.std.specs.Prelude.{not, ◌&&◌, ◌||◌, ◌⊎◌, ◌==◌, if◌then◌else◌, is_none, MatchOption, OnOk, int_le, slice_get, slice_set}
-use Rattle.std.specs.List.{list_all, list_any, range_with_len}
+use Rattle.std.proofs.Common.{◌≡◌, ℕ, suc, zero, ◌+◌, ◌<◌, ◌≤◌, Bool, true, false, List, [], ◌∷◌, ◌++◌, length, filter, get_or, take, drop, Option, Some, None, Result, Ok, Err, ℤ, refl, sym, ◌∙◌, ap, subst, inl, inr, arith}
+use Rattle.std.specs.Prelude.{not, ◌&&◌, ◌||◌, ◌⊎◌, ◌==◌, is_none, MatchOption, OnOk, int_le, slice_get, slice_set}
+use Rattle.std.specs.List.{list_all, list_any}
 use Rattle.std.specs.Option.{option_map_or}
 use Rattle.std.specs.Ordering.{int_eq}
-use Rattle.std.proofs.lemmas.Bool.{and_from, and_parts, cases_eq, eq-eqb, ne_eqb}
+use Rattle.std.proofs.lemmas.Bool.{cases_eq, eq-eqb, ne_eqb}
 use Rattle.std.proofs.lemmas.Bool.Decides.{Decides-int_eq, same_from_decides}
 use Rattle.std.proofs.lemmas.List.{append-nil, append_assoc, drop_all, get_or-set_other, get_or-set_same, length-set, take_all, take_more}
 use Rattle.std.proofs.lemmas.List.Folds.{list_any-append}
 use Rattle.std.proofs.lemmas.List.FromFn.{fill_by_all}
 use Rattle.dp_base.specs.Lists.{Among, Each}
 use Rattle.dp_base.proofs.Lists.{Among-get_or, Each-get_or, list_all-at}
-use Rattle.dp_domain.specs.Sets.{IsSmall}
 use Rattle.dp_domain.specs.States.{Domains, values}
 use Rattle.dp_domain.specs.declared.term.Term.{Term}
 use Rattle.dp_domain.specs.declared.term.Term.TheVariants.{Var, Const}
 use Rattle.dp_domain.proofs.AtomLaws.{same-from_tests, tests-from_same}
-use Rattle.fz_model.specs.Models.{count_variables, is_own, named_variable, variable_of_item}
+use Rattle.fz_model.specs.Models.{count_variables, named_variable, variable_of_item}
 use Rattle.fz_model.specs.declared.model.Basic.{Basic}
 use Rattle.fz_model.specs.declared.model.Basic.TheVariants as basic
 use Rattle.fz_model.specs.declared.model.Item.{Item}
@@ -25,7 +24,7 @@ use Rattle.fz_model.specs.declared.model.VarType.{VarType}
 use Rattle.fz_sat.specs.Args.{term_of, term_of_item}
 use Rattle.fz_sat.specs.Satisfies.{is_of_type}
 use Rattle.dp_lower.specs.Cuts.{IsCutBy, IsSmallOrVar, IsWithVar, own_sets, typed_in}
-use Rattle.fz_facts.specs.Facts.{AreNumbered, IsBounded, IsBounding, IsDeclared, IsElement, IsNumbered, IsSmallConst}
+use Rattle.fz_facts.specs.Facts.{AreNumbered, IsBounded, IsDeclared, IsElement, IsSmallConst}
 use Rattle.dp_lower.specs.Problem.{allows, domain_of, domains_of, fits, is_variable, may_be}
 use Rattle.dp_lower.specs.Small.{small_numbers}
 use Rattle.dp_lower.proofs.DomainLaws.{own_count, var_below}
@@ -230,6 +229,7 @@ begun_at items n (item.Var name kind output value var ∷ rest) k h below =
       where
         moved : (m j : ℕ) → (m + 1) + j ≡ m + suc j
         moved m j = omega arith
+
     by : (o : Option ℕ) → named_variable items value ≡ o → ((j : ℕ) → AreNumbered items (n + 1) rest → j < own_count items rest → IsBegun items rest ((n + 1) + j) (get_or (own_sets items rest) j [])) →
         (AreNumbered items n rest → k < own_count items rest → IsBegun items rest (n + k) (get_or (own_sets items rest) k [])) → IsBegun items (item.Var name kind output value var ∷ rest) (n + k) (get_or (own_sets items (item.Var name kind output value var ∷ rest)) k [])
     by None e own same = rw e (first e k refl own)

@@ -129,6 +129,7 @@ own_item items n (item.Var name kind output value var ∷ rest) x h low high =
   where
     own_next : named_variable items value ≡ None → AreNumbered items (n + 1) rest
     own_next none = let k = h.1 in rw none at k
+
     own_same : is_none (named_variable items value) ≡ false → AreNumbered items n rest
     own_same some = let k = h.1 in rw some at k
 own_item items n (item.Int name value ∷ rest) x h low high = later_declares items (item.Int name value) rest x (own_item items n rest x h.1 low high)

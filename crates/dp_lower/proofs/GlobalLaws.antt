@@ -1,5 +1,5 @@
 -- What the parts of the constraints on whole arrays say is what the constraints mean.
-use Rattle.std.proofs.Common.{◌≡◌, ℕ, zero, suc, ◌+◌, ◌≤◌, Bool, true, false, cond, Option, Some, None, List, [], ◌∷◌, length, get_or, map, ℤ, pos, negsuc, ◌+ℤ◌, ◌≤ℤ◌, refl, sym, ◌∙◌, ap, subst, arith}
+use Rattle.std.proofs.Common.{◌≡◌, ℕ, zero, suc, ◌+◌, ◌≤◌, Bool, true, false, cond, Some, None, List, [], ◌∷◌, length, get_or, map, ℤ, pos, negsuc, ◌+ℤ◌, ◌≤ℤ◌, refl, ◌∙◌, ap, subst, arith}
 use Rattle.std.specs.Prelude.{◌&&◌, ◌↔◌, int_le, int_lt, slice_get, unsigned_abs}
 use Rattle.std.specs.List.{filter, sum_by, zip}
 use Rattle.std.proofs.lemmas.Int.{ints}
@@ -13,7 +13,7 @@ use Rattle.dp_rule_alldiff.specs.AllDifferent as crowd
 use Rattle.dp_rule_cumulative.specs.Refusals.{IsAllowed, IsProper}
 use Rattle.dp_rule_cumulative.specs.Schedules as schedule
 use Rattle.dp_rule_cumulative.specs.declared.task.Task as planned
-use Rattle.fz_sat.specs.Globals.{AreDistinct, IsEntryAt, KeepsCapacity, Task, end_of, runs_at, task_of, tasks_of, total, usage_at}
+use Rattle.fz_sat.specs.Globals.{AreDistinct, IsEntryAt, KeepsCapacity, Task, runs_at, task_of, tasks_of, total, usage_at}
 use Rattle.fz_model.specs.declared.kinds.ArgKind.TheVariants as arg
 use Rattle.fz_model.specs.declared.model.Expr.{Expr}
 use Rattle.fz_model.specs.declared.model.Item.{Item}
@@ -123,8 +123,7 @@ pub scheduled_means : (s : ℕ → ℤ) (starts durations uses : List Term) (cap
     AreMet s (scheduled starts durations uses capacity) ↔ KeepsCapacity (meant_tasks s starts durations uses) (term_at s capacity)
 scheduled_means s starts durations uses capacity h g f =
     let tasks = planned_tasks starts durations uses in
-    let n = unsigned_abs (number_in capacity) in
-    (
+    let n = unsigned_abs (number_in capacity) in (
       λ meets t. kept_here (schedule.usage_of (schedule.runs_at s t) tasks) n (usage_at t (meant_tasks s starts durations uses)) (term_at s capacity) (same_usage s t starts durations uses h g) (amount s capacity f) (meets.0 t),
       λ keeps. (λ t. kept_there (schedule.usage_of (schedule.runs_at s t) tasks) n (usage_at t (meant_tasks s starts durations uses)) (term_at s capacity) (same_usage s t starts durations uses h g) (amount s capacity f) (keeps t), tt),
     )

@@ -1,6 +1,6 @@
 -- Sums in a map from variables to coefficients, one term on.
-use Rattle.std.proofs.Common.{◌≡◌, ℕ, suc, ◌+◌, ◌*◌, ◌^◌, ◌<◌, ◌≤◌, Bool, true, false, List, [], ◌∷◌, length, map, filter, get_or, drop, Option, Some, None, ℤ, pos, neg_ℤ, ◌+ℤ◌, ◌-ℤ◌, ◌*ℤ◌, ◌≤ℤ◌, refl, sym, ◌∙◌, ap, subst, inl, inr, arith}
-use Rattle.std.specs.Prelude.{◌==◌, nat_lt, if◌then◌else◌, unwrap_or, FitsSigned}
+use Rattle.std.proofs.Common.{◌≡◌, ℕ, suc, ◌+◌, ◌*◌, ◌^◌, ◌<◌, ◌≤◌, Bool, true, false, List, [], ◌∷◌, length, map, get_or, drop, None, ℤ, pos, neg_ℤ, ◌+ℤ◌, ◌-ℤ◌, ◌*ℤ◌, refl, sym, ◌∙◌, ap, subst, inl, inr, arith}
+use Rattle.std.specs.Prelude.{◌==◌, nat_lt, unwrap_or, FitsSigned}
 use mir.Syntax.{w128}
 use mir.Val.{of_z, to_z}
 use Rattle.std.specs.BTreeMap.{insert_entry, is_at}
@@ -98,6 +98,7 @@ bounded-with_term n t (u ∷ us) small h = by (nat_lt t.1 u.1) (nat_lt u.1 t.1) 
   where
     rest : Each (λ v. IsBounded ((n + 1) * 1000000000) v.0) us
     rest = Each-weaker (λ v. IsBounded (n * 1000000000) v.0) (λ v. IsBounded ((n + 1) * 1000000000) v.0) (λ v k. wider n v.0 k) us h.1
+
     by : (b a : Bool) → nat_lt t.1 u.1 ≡ b → nat_lt u.1 t.1 ≡ a → Each (λ v. IsBounded ((n + 1) * 1000000000) v.0) (with_term t us) → Each (λ v. IsBounded ((n + 1) * 1000000000) v.0) (with_term t (u ∷ us))
     by true a e f later = rw e (alone_small n t.0 small, (wider n u.0 h.0, rest))
     by false true e f later = rw (e, f) (wider n u.0 h.0, later)

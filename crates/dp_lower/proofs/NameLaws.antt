@@ -1,6 +1,6 @@
 -- The names of items, one item on.
-use Rattle.std.proofs.Common.{◌≡◌, ℕ, ◌+◌, ◌<◌, ◌≤◌, Bool, true, false, List, [], ◌∷◌, ◌++◌, length, map, drop, get_or, Option, Some, None, refl, sym, ◌∙◌, ap, subst, inl, inr, arith}
-use Rattle.std.specs.Prelude.{◌⊎◌, if◌then◌else◌, is_none}
+use Rattle.std.proofs.Common.{◌≡◌, ℕ, ◌+◌, ◌<◌, ◌≤◌, Bool, true, false, List, [], ◌∷◌, ◌++◌, length, map, drop, get_or, Option, None, refl, sym, ◌∙◌, ap, subst, inl, inr, arith}
+use Rattle.std.specs.Prelude.{is_none}
 use Rattle.std.specs.Map.{lookup}
 use Rattle.std.specs.Str.{bytes_eq}
 use Rattle.std.proofs.lemmas.List.{append-nil, append_assoc, drop_all, drop_more, length-append}
@@ -105,6 +105,7 @@ last_fresh (x ∷ xs) name var h = by (last_fresh xs name var h.1)
     there : (ys : List (List ℕ × ℕ)) → Among name (map (λ e. e.0) (ys ++ (name, var) ∷ []))
     there [] = inl refl
     there (y ∷ ys) = inr (there ys)
+
     by : (Among name (map (λ e. e.0) xs) → ⊥) → Among name (map (λ e. e.0) (x ∷ xs)) → ⊥
     by later (inl e) = h.0 (subst (λ n. Among n (map (λ e. e.0) (xs ++ (name, var) ∷ []))) e (there xs))
     by later (inr here) = later here

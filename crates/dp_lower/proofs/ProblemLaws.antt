@@ -1,12 +1,11 @@
 -- The problem of a model keeps what every problem keeps.
-use Rattle.std.proofs.Common.{◌≡◌, ℕ, zero, suc, ◌+◌, ◌<◌, ◌≤◌, Bool, true, false, Option, Some, None, List, [], ◌∷◌, length, map, ℤ, refl, sym, ◌∙◌, ap, subst, inl, inr, arith}
+use Rattle.std.proofs.Common.{◌≡◌, ℕ, zero, suc, ◌+◌, ◌<◌, ◌≤◌, Bool, true, false, Option, Some, None, List, [], ◌∷◌, length, map, refl, sym, ◌∙◌, ap, subst, inl, inr, arith}
 use Rattle.std.specs.Prelude.{◌^◌, if◌then◌else◌, MatchOption, is_none, slice_get}
 use Rattle.std.specs.List.{filter}
 use Rattle.std.specs.Option.{option_map_or}
 use Rattle.std.proofs.lemmas.List.{length-map}
 use Rattle.dp_base.specs.Lists.{Among, Each}
 use Rattle.dp_base.proofs.Lists.{Each-weaker}
-use Rattle.dp_domain.specs.Faces.{Covers}
 use Rattle.dp_domain.specs.declared.term.Term.{Term}
 use Rattle.dp_domain.specs.declared.term.Term.TheVariants.{Var, Const}
 use Rattle.dp_parts.specs.Parts.{face_of}
@@ -24,11 +23,11 @@ use Rattle.fz_model.specs.declared.model.ModelGoal.{ModelGoal}
 use Rattle.fz_model.specs.declared.model.ModelGoal.TheVariants as goal
 use Rattle.fz_model.specs.declared.model.VarType.{VarType}
 use Rattle.fz_sat.specs.Args.{term_of}
-use Rattle.fz_facts.specs.Facts.{AreFit, AreNumbered, IsFitted, IsGoal, IsNumbered, IsVariable, IsWellFormed}
+use Rattle.fz_facts.specs.Facts.{AreFit, AreNumbered, IsFitted, IsGoal, IsVariable, IsWellFormed}
 use Rattle.dp_lower.specs.Problem.{domains_of, goal_in, parts_of, problem_of, variable_in}
 use Rattle.dp_lower.specs.Recipe.{args_in, recipe}
 use Rattle.fz_facts.specs.Declared.{names_of, own_places}
-use Rattle.dp_lower.proofs.CoverLaws.{AreFine, Each-map, IsCovered, none_fine}
+use Rattle.dp_lower.proofs.CoverLaws.{AreFine, Each-map, IsCovered}
 use Rattle.dp_lower.proofs.DomainLaws.{length-domains_of, own_count, var_below}
 use Rattle.dp_lower.proofs.RecipeCover.{most_parts, recipe_fine}
 

@@ -1,14 +1,12 @@
 -- The forms of sums in their normal form are never refused.
-use mir.Syntax.{w128}
-use mir.Val.{of_z, to_z}
-use Rattle.std.proofs.Common.{◌≡◌, ◌≢◌, ℕ, suc, zero, ◌+◌, ◌*◌, ◌^◌, ◌<◌, ◌≤◌, inl, inr, Bool, true, false, List, [], ◌∷◌, length, map, filter, get_or, Option, Some, None, Result, Ok, Err, ℤ, pos, neg_ℤ, ◌-ℤ◌, refl, sym, ◌∙◌, ap, subst, arith}
+use Rattle.std.proofs.Common.{◌≡◌, ◌≢◌, ℕ, suc, zero, ◌+◌, ◌*◌, ◌^◌, ◌<◌, ◌≤◌, inl, inr, Bool, true, false, List, [], ◌∷◌, length, get_or, Option, Some, None, Result, Ok, Err, ℤ, pos, ◌-ℤ◌, refl, sym, subst, arith}
 use Rattle.std.specs.Prelude.{IfErr, IsOk, not}
 use Rattle.std.specs.Ordering.{int_eq}
 use Rattle.std.proofs.lemmas.Int.{ints}
 use Rattle.std.proofs.lemmas.Bool.{both_ways, not-true}
 use Rattle.std.proofs.lemmas.Bool.Decides.{Decides-int_eq}
 use Rattle.dp_base.specs.Lists.{Among, Climbs, Each}
-use Rattle.dp_base.proofs.Lists.{Among-filter_only, Among-get_or, Each-among, Each-filter, Each-from_among, Each-get_or, Each-weaker, length-filter_cases}
+use Rattle.dp_base.proofs.Lists.{Among-filter_only, Among-get_or, Each-among, Each-filter, Each-from_among, Each-get_or, length-filter_cases}
 use Rattle.dp_domain.specs.Atoms.{Atomic}
 use Rattle.dp_domain.specs.Conditions.{IsApart}
 use Rattle.dp_rule_linear.specs.Forms.{IsBounded, IsGoodAt, IsProper, form_of, term_at, variables}

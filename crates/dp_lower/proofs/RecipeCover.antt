@@ -1,5 +1,5 @@
 -- The parts of each constraint of a model speak of its variables alone, and there are few of them: one line for each row of the table.
-use Rattle.std.proofs.Common.{◌≡◌, ℕ, ◌+◌, ◌<◌, ◌≤◌, Bool, true, false, List, [], ◌∷◌, length, ℤ, pos, negsuc, arith}
+use Rattle.std.proofs.Common.{ℕ, Bool, true, false, List, [], ◌∷◌, length, pos, negsuc, arith}
 use Rattle.std.specs.Prelude.{nat_le, if◌then◌else◌}
 use Rattle.dp_base.specs.Lists.{Each}
 use Rattle.dp_base.proofs.Lists.{Each-weaker}
@@ -65,6 +65,7 @@ xor_rows_of items args h g k = by (nat_le 3 (length args))
   where
     two : AreRowsOf (count_variables items) 2 (other_rows (arg_term items args 0) (arg_term items args 1))
     two = other_rows_of (count_variables items) (arg_term items args 0) (arg_term items args 1) (bool_term items (arg_term items args 0) h) (bool_term items (arg_term items args 1) g)
+
     by : (b : Bool) → AreRowsOf (count_variables items) 4
         (if b then rows_by (arg_term items args 2) (other_rows (arg_term items args 0) (arg_term items args 1)) (same_rows (arg_term items args 0) (arg_term items args 1)) else other_rows (arg_term items args 0) (arg_term items args 1))
     by true =

@@ -101,9 +101,11 @@ member_reified_says s (Const v) set r small = by (is_in_set set v) refl
     on_row : (o : Bool) → iff o true ≡ not (not o && true)
     on_row true = refl
     on_row false = refl
+
     off_row : (o : Bool) → iff o false ≡ not (o && true)
     off_row true = refl
     off_row false = refl
+
     by : (b : Bool) → is_in_set set v ≡ b → Say s (member_reified (Const v) set r) (iff (is_on (term_at s r)) b)
     by true e = rw e (Decides-at (iff (is_on (term_at s r)) true) (not_all s (Fails r ∷ [])) (on_row (is_on (term_at s r))) (nogood_says s (Fails r ∷ [])))
     by false e = rw e (Decides-at (iff (is_on (term_at s r)) false) (not_all s (Holds r ∷ [])) (off_row (is_on (term_at s r))) (nogood_says s (Holds r ∷ [])))

@@ -1,14 +1,14 @@
 -- The numbers that intervals have: those of a set, and those of the gaps between intervals.
 use Rattle.std.proofs.Common.{◌≡◌, ℕ, ◌+◌, ◌<◌, Bool, true, false, Result, Ok, Err, length, get_or, drop, ap, add-one, append_assoc, drop-cons, List, [], ◌∷◌, ◌++◌, filter, ℤ, pos, neg_ℤ, ◌+ℤ◌, ◌-ℤ◌, ◌≤ℤ◌, refl, sym, ◌∙◌, subst, inl, inr, arith}
-use Rattle.std.specs.Prelude.{◌^◌, ◌<ℤ◌, ◌⊎◌, ◌&&◌, IfOk, not, if◌then◌else◌, int_le, int_lt}
+use Rattle.std.specs.Prelude.{◌^◌, ◌<ℤ◌, ◌⊎◌, IfOk, not, if◌then◌else◌, int_le, int_lt}
 use Rattle.std.specs.Int.{int_max, int_min}
 use Rattle.std.specs.List.{flat_map}
 use Rattle.std.proofs.lemmas.Int.{ints}
 use Rattle.std.proofs.lemmas.Bool.{and_from, and_parts, both_ways, cases_Bool, cond-false, cond-true, false_from_ne_true, not-true, not_from_false}
 use Rattle.dp_base.specs.Lists.{Among, Each}
 use Rattle.dp_base.proofs.Lists.{Among-append_cases, Among-append_left, Among-append_right, Each-among, Each-append, Each-from_among, Each-weaker}
-use Rattle.dp_domain.specs.Sets.{AreApart, Collects, IsDomain, IsSmall, LiesBetween, LiesInOne, is_among}
-use Rattle.dp_domain.proofs.AtomLaws.{le-from_test, lt-from_test, order_cases, test-from_le}
+use Rattle.dp_domain.specs.Sets.{AreApart, Collects, IsDomain, IsSmall, LiesBetween, LiesInOne}
+use Rattle.dp_domain.proofs.AtomLaws.{le-from_test, lt-from_test, test-from_le}
 use Rattle.dp_domain.proofs.IntervalLaws.{AreApart-among}
 use Rattle.dp_domain.proofs.SetLaws.{Collects-same, IsSmall-among}
 use Rattle.dp_domain.proofs.ShareLaws.{is_among-at, is_among-some}
@@ -44,6 +44,7 @@ small_interval first last low high = by (int_le first last) refl
   where
     ends : first ≤ℤ last → HasSmallEnds (first, last)
     ends h = ((low, omega (arith, ints)), (omega (arith, ints), high))
+
     by : (b : Bool) → int_le first last ≡ b → Each HasSmallEnds (if b then (first, last) ∷ [] else [])
     by true e = (ends (le-from_test first last e), tt)
     by false e = tt

@@ -2,7 +2,7 @@
 use Rattle.std.proofs.Common.{◌≡◌, ℕ, Bool, true, false, List, [], ◌∷◌, ◌++◌, filter, Option, Some, None, ℤ, pos, neg_ℤ, ◌+ℤ◌, ◌-ℤ◌, ◌≤ℤ◌, refl, sym, ◌∙◌, ap, arith}
 use Rattle.std.specs.Prelude.{not, ◌&&◌, ◌||◌, int_le}
 use Rattle.std.specs.Bool.{Decides}
-use Rattle.std.specs.List.{cons_option, filter_map, flat_map, list_all, list_any}
+use Rattle.std.specs.List.{cons_option, filter_map, list_all, list_any}
 use Rattle.std.specs.Ordering.{int_eq}
 use Rattle.std.proofs.lemmas.Int.{ints}
 use Rattle.std.proofs.lemmas.Bool.{and_from, and_parts, both_ways, false_from_ne_true, not-false, not-true, not_from_false, or_parts}
@@ -241,9 +241,9 @@ nogood_by s literals true e = rw e (
   λ h. let r = list_any-some is_refuted literals e in not_from_false (list_all (is_so s) literals) (list_all-not (is_so s) literals r.0 r.1 (refuted_fails s r.0 r.2)),
 )
 nogood_by s literals false e = rw e (
-  one_part s (Nogood (each_once (filter_map atom_of literals))) (not_all s literals)
-  (Decides-at (not_all s literals) (not (list_all (holds_at s) (filter_map atom_of literals))) (ap not (sym (all_hold s literals e))) (some_fails s (filter_map atom_of literals)))
-)
+    one_part s (Nogood (each_once (filter_map atom_of literals))) (not_all s literals)
+    (Decides-at (not_all s literals) (not (list_all (holds_at s) (filter_map atom_of literals))) (ap not (sym (all_hold s literals e))) (some_fails s (filter_map atom_of literals)))
+    )
 
 -- the literals do not all hold
 pub nogood_says : (s : ℕ → ℤ) (literals : List Literal) → Say s (nogood literals) (not_all s literals)

@@ -1,5 +1,5 @@
 -- The parts of a side, as the code adds them.
-use Rattle.std.proofs.Common.{◌≡◌, List, [], ◌∷◌, ◌++◌, Option, ℤ, pos, neg_ℤ, ◌-ℤ◌, refl, sym, ◌∙◌, ap}
+use Rattle.std.proofs.Common.{◌≡◌, List, [], ◌∷◌, ◌++◌, Option, ℤ, pos, neg_ℤ, ◌-ℤ◌, ◌∙◌, ap}
 use Rattle.std.proofs.lemmas.List.{append_assoc}
 use Rattle.dp_domain.specs.Atoms.{Atomic}
 use Rattle.dp_parts.specs.declared.part.Part.{Part}

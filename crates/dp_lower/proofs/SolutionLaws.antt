@@ -1,5 +1,5 @@
 -- The solutions of a model's problem are the assignments that satisfy the model.
-use Rattle.std.proofs.Common.{◌≡◌, ℕ, ◌<◌, List, [], ◌∷◌, map, Option, Some, None, ℤ, refl}
+use Rattle.std.proofs.Common.{ℕ, ◌<◌, List, [], ◌∷◌, map, Option, Some, None, ℤ}
 use Rattle.std.specs.Prelude.{◌↔◌, MatchOption}
 use Rattle.std.specs.Option.{option_map_or}
 use Rattle.dp_base.specs.Lists.{Each}
@@ -21,7 +21,7 @@ use Rattle.fz_facts.specs.Facts.{AreFit, IsFitted, IsIntTerm, IsWellFormed}
 use Rattle.dp_lower.specs.Problem.{parts_of, problem_of}
 use Rattle.dp_lower.specs.Recipe.{args_in, recipe}
 use Rattle.dp_lower.proofs.DomainLaws.{AreDeclared, kept_within, small_within, within_kept}
-use Rattle.dp_lower.proofs.RecipeLaws.{AreAmounts, IsSmallAt, Rests, recipe_means}
+use Rattle.dp_lower.proofs.RecipeLaws.{IsSmallAt, Rests, recipe_means}
 use Rattle.dp_lower.proofs.SideLaws.{AreMet}
 
 -- ---- one constraint
@@ -98,8 +98,7 @@ all_met s items (c ∷ cs) small fitted =
 -- an assignment satisfies the model exactly where it is a solution of its problem
 pub same_solutions : (m : Plan) → IsWellFormed m → (s : ℕ → ℤ) → Satisfies m s ↔ IsSolution s (problem_of m)
 same_solutions m h s =
-    let declared : AreDeclared m.items = record { numbered = h.numbered; declared = h.declared } in
-    (
+    let declared : AreDeclared m.items = record { numbered = h.numbered; declared = h.declared } in (
       λ sat. let lies = within_kept m.items s declared sat.kept in
           record { within = lies; meets = (all_met s m.items m.constraints (small_within m.items s lies) h.fitted).1 sat.met },
       λ solution. record {

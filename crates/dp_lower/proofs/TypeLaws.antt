@@ -1,12 +1,12 @@
 -- Sets of numbers, as the code makes them.
-use Rattle.std.proofs.Common.{◌≡◌, ℕ, ◌^◌, Bool, true, false, List, [], ◌∷◌, map, filter, Option, Some, None, Result, Ok, Err, ℤ, pos, neg_ℤ, ◌≤ℤ◌, refl, sym, ◌∙◌, ap, subst, inl, inr, arith}
+use Rattle.std.proofs.Common.{◌≡◌, ◌^◌, Bool, true, false, List, [], ◌∷◌, map, filter, Some, None, Result, Ok, Err, ℤ, pos, neg_ℤ, ◌≤ℤ◌, refl, sym, ◌∙◌, ap, subst, inl, inr, arith}
 use Rattle.std.specs.Prelude.{◌&&◌, ◌↔◌, IfOk, int_le}
 use Rattle.std.specs.List.{list_all}
 use Rattle.std.proofs.lemmas.Bool.Decides.{same_from_decides}
 use Rattle.std.proofs.lemmas.Int.{ints}
-use Rattle.std.proofs.lemmas.Bool.{and_from, and_parts, both_ways, false_from_ne_true}
+use Rattle.std.proofs.lemmas.Bool.{and_from, and_parts}
 use Rattle.dp_base.specs.Lists.{Among, Each}
-use Rattle.dp_base.proofs.Lists.{Among-filter_all, Among-filter_only, Each-among, Each-filter, Each-from_among, filter-whole, list_any-at, list_any-not, list_any-some}
+use Rattle.dp_base.proofs.Lists.{Among-filter_all, Among-filter_only, Each-among, Each-from_among, filter-whole, list_any-at, list_any-some}
 use Rattle.dp_domain.specs.Atoms.{Atomic, meets}
 use Rattle.dp_domain.specs.declared.atom.Op.TheVariants.{Ge, Le}
 use Rattle.dp_domain.specs.Sets.{Collects, IsDomain, IsSmall, LiesBetween, LiesInOne, is_among, least}

@@ -1,7 +1,6 @@
 -- The variables and coefficients of weighted terms.
-use Rattle.std.proofs.Common.{◌≡◌, ℕ, ◌≤◌, Bool, true, false, List, [], ◌∷◌, length, map, Result, Ok, Err, ℤ, pos, refl, sym, ◌∙◌, ap, subst, arith}
+use Rattle.std.proofs.Common.{◌≡◌, ℕ, ◌≤◌, Bool, true, false, List, [], ◌∷◌, length, Result, Ok, Err, ℤ, pos, refl, arith}
 use Rattle.std.specs.Prelude.{nat_lt, IfOk}
-use Rattle.std.specs.List.{zip}
 use Rattle.std.proofs.lemmas.Bool.{both_ways}
 use Rattle.dp_base.specs.Lists.{Each}
 use Rattle.dp_base.proofs.Lists.{Each-among}

@@ -1,5 +1,5 @@
 -- How large the numbers of a sum in its normal form are.
-use Rattle.std.specs.Prelude.{ℕ, ◌^◌, ◌*◌, ◌≤◌, List, length, map, ℤ}
+use Rattle.std.specs.Prelude.{ℕ, ◌*◌, ◌≤◌, List, length, map, ℤ}
 use Rattle.dp_base.specs.Lists.{Climbs, Each}
 use Rattle.dp_domain.specs.declared.term.Term.{Term}
 use Rattle.dp_domain.specs.declared.term.Term.TheVariants.{Var, Const}

@@ -95,11 +95,7 @@ fn push_pair(
 }
 
 /// Adds the nogood of a row, behind a literal if there is one.
-fn push_row(
-    parts: &mut Vec<Part>,
-    under: &Option<Literal>,
-    row: &[Literal],
-) -> Result<(), Memory>
+fn push_row(parts: &mut Vec<Part>, under: &Option<Literal>, row: &[Literal]) -> Result<(), Memory>
     ensures { OnOk result (parts.new.items ≡ parts.old.items ++ nogood (under_row under.now row.now)) }
 {
     match under {

@@ -45,12 +45,7 @@ fn begun(alloc: Global, items: &[Item]) -> Result<Vec<Dom>, Memory>
 }
 
 /// Adds the set of a variable of its own; nothing for another item.
-fn push_own(
-    alloc: Global,
-    items: &[Item],
-    sets: &mut Vec<Dom>,
-    item: &Item,
-) -> Result<(), Memory>
+fn push_own(alloc: Global, items: &[Item], sets: &mut Vec<Dom>, item: &Item) -> Result<(), Memory>
     requires { IsDeclared items.now item.now }
     ensures { OnOk result (sets.new.items ≡ sets.old.items ++ own_sets items.now (item.now ∷ [])) }
 {
@@ -91,12 +86,7 @@ fn first_domain(
 }
 
 /// Keeps what the item lets each variable be.
-fn cut_by(
-    alloc: Global,
-    items: &[Item],
-    sets: &mut Vec<Dom>,
-    item: &Item,
-) -> Result<(), Memory>
+fn cut_by(alloc: Global, items: &[Item], sets: &mut Vec<Dom>, item: &Item) -> Result<(), Memory>
     requires count { length sets.old.items ≡ count_variables items.now }
     requires below { IsWithVar (λ x. x < length sets.old.items) item.now }
     requires declared { IsDeclared items.now item.now }
@@ -104,7 +94,10 @@ fn cut_by(
 {
     match item {
         Item::Var {
-            kind, value, var, ..
+            kind,
+            value,
+            var,
+            ..
         } => cut_declared_at(alloc, items, sets, *var as usize, kind, *value),
         Item::Vars { kind, elements, .. } => {
             cut_elements(alloc, items, sets, kind, elements.as_slice())
@@ -210,12 +203,7 @@ fn cut_element(
 }
 
 /// Keeps of the set at the place the numbers of the type.
-fn cut_at(
-    alloc: Global,
-    sets: &mut Vec<Dom>,
-    place: usize,
-    kind: &VarType,
-) -> Result<(), Memory>
+fn cut_at(alloc: Global, sets: &mut Vec<Dom>, place: usize, kind: &VarType) -> Result<(), Memory>
     requires small { IsSmallType kind.now }
     requires place { place < length sets.old.items }
     ensures { OnOk result (sets.new.items ≡ slice_set sets.old.items place (filter (is_of_type kind.now) (values sets.old.items place))) }

@@ -25,7 +25,12 @@ pub fn selected(alloc: Global, items: &[Item], args: &[Expr]) -> Result<Vec<Part
     ensures { IfOk result (λ parts. let a = args_in items.now args.now in parts.items ≡ spec.selected (a.term 0) (a.terms 1) (a.term 2)) }
 {
     let array = arg_terms(alloc, items, args, 1)?;
-    let rule = Element::new(alloc, arg_term(items, args, 0), array, arg_term(items, args, 2))?;
+    let rule = Element::new(
+        alloc,
+        arg_term(items, args, 0),
+        array,
+        arg_term(items, args, 2),
+    )?;
     one_part(alloc, Part::Element(rule))
 }
 

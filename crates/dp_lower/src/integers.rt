@@ -28,7 +28,12 @@ pub fn linear(
     ensures { IfOk result (λ parts. parts.items ≡ always (side_of relation (spec.linear_sum (args_in items.now args.now)) (spec.limit (args_in items.now args.now)))) }
 {
     let sum = linear_sum(alloc, items, args)?;
-    relate(alloc, relation, &sum, i128::from(arg_number(items, args, 2)))
+    relate(
+        alloc,
+        relation,
+        &sum,
+        i128::from(arg_number(items, args, 2)),
+    )
 }
 
 /// The parts of a reified linear constraint.

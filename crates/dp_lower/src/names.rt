@@ -47,7 +47,10 @@ fn add_item(
 {
     match item {
         Item::Var {
-            name, value, var, ..
+            name,
+            value,
+            var,
+            ..
         } => {
             let place = names.len() as u32;
             let name = copy_of(*names.allocator(), name)?;

@@ -16,15 +16,15 @@ use fz_sat::arg_term;
 use std::alloc::Global;
 
 /// The relation of the first two arguments.
-pub fn paired(
-    alloc: Global,
-    items: &[Item],
-    args: &[Expr],
-    pair: Pair,
-) -> Result<Vec<Part>, Memory>
+pub fn paired(alloc: Global, items: &[Item], args: &[Expr], pair: Pair) -> Result<Vec<Part>, Memory>
     ensures { IfOk result (λ parts. parts.items ≡ nogoods (pair_rows pair ((args_in items.now args.now).term 0) ((args_in items.now args.now).term 1))) }
 {
-    compare(alloc, pair, &arg_term(items, args, 0), &arg_term(items, args, 1))
+    compare(
+        alloc,
+        pair,
+        &arg_term(items, args, 0),
+        &arg_term(items, args, 1),
+    )
 }
 
 /// The relation of the first two arguments, as the third says.

@@ -60,10 +60,8 @@ fn variable_reified(
     r: &Term,
 ) -> Result<Vec<Part>, Memory>
     requires { IsApartFrom r.now (var ∷ []) }
-    ensures {
-        let set = args_spec.arg_set items.now args.now 1 in
-        IfOk result (λ parts. parts.items ≡ reified r.now (is_member var set) (is_no_member var set))
-    }
+    ensures { let set = args_spec.arg_set items.now args.now 1 in
+        IfOk result (λ parts. parts.items ≡ reified r.now (is_member var set) (is_no_member var set)) }
 {
     let mut parts = Vec::new(alloc);
     match r {

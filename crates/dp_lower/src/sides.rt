@@ -63,11 +63,7 @@ fn other_than(sum: &LinearSum, number: i128, condition: Option<Atom>) -> Result<
 }
 
 /// Where the condition holds, the opposite of the sum is at most the number.
-fn opposite_at_most(
-    sum: &LinearSum,
-    number: i128,
-    condition: Option<Atom>,
-) -> Result<Part, Memory>
+fn opposite_at_most(sum: &LinearSum, number: i128, condition: Option<Atom>) -> Result<Part, Memory>
     requires merged { IsMerged 2000000 sum.now }
     requires bounded { IsBounded 100000000000000000000 number }
     requires apart { IsApart condition (variables sum.now.terms) }

@@ -71,10 +71,7 @@ impl LinearSum {
 }
 
 /// The coefficient of each variable, and the number.
-fn summed(
-    alloc: Global,
-    terms: &[(i64, Term)],
-) -> Result<(BTreeMap<u32, i64>, i128), Memory>
+fn summed(alloc: Global, terms: &[(i64, Term)]) -> Result<(BTreeMap<u32, i64>, i128), Memory>
     requires few { length terms.now ≤ 2000000 }
     requires small { Each (λ t. IsSmall t.0) terms.now }
     ensures sum { IfOk result (λ r. sum_in r.0.entries r.1 ≡ sum_of terms.now) }
@@ -145,10 +142,7 @@ fn product(coefficient: i64, value: i64) -> i128
 }
 
 /// The terms of these coefficients, in order of declaration.
-fn listed(
-    alloc: Global,
-    coefficients: &BTreeMap<u32, i64>,
-) -> Result<Vec<(i64, VarId)>, Memory>
+fn listed(alloc: Global, coefficients: &BTreeMap<u32, i64>) -> Result<Vec<(i64, VarId)>, Memory>
     ensures { IfOk result (λ terms. terms.items ≡ terms_in coefficients.now.entries) }
 {
     Ok(

@@ -97,7 +97,13 @@ pub fn difference(alloc: Global, items: &[Item], args: &[Expr]) -> Result<Linear
     ensures integers { IfOk result (λ q. IsIntTerm items.now (args_spec.arg_term items.now args.now 0) → IsIntTerm items.now (args_spec.arg_term items.now args.now 1) →
         Each (λ x. is_boolean items.now x ≡ false) (variables q.terms)) }
 {
-    LinearSum::of(alloc, &[(1, arg_term(items, args, 0)), (-1, arg_term(items, args, 1))])
+    LinearSum::of(
+        alloc,
+        &[
+            (1, arg_term(items, args, 0)),
+            (-1, arg_term(items, args, 1)),
+        ],
+    )
 }
 
 /// The two first arguments less the third.

@@ -10,7 +10,7 @@ use Rattle.dp_lower.proofs.CutLaws.{cut_none, item_cut, on_map, var_below_by}
 use Rattle.dp_lower.proofs.domains.cut_by.Goals as goal
 
 pub returns-in-Var : goal.returns-in-Var
-returns-in-Var c = 
+returns-in-Var c =
     let old = c.args.sets.now.items in
     on_map c.cut_declared_at.result (c.cut_declared_at.new.sets.items ≡ slice_set old c.in-Var.var (filter (λ v. is_of_type c.in-Var.kind v && option_map_or (λ b. fits v (term_of c.args.items.now b)) c.in-Var.value true) (values old c.in-Var.var)))
     (IsCutBy (λ x v. allows c.args.items.now x v c.args.item.now) old c.cut_declared_at.new.sets.items)

@@ -10,7 +10,7 @@ use Rattle.dp_lower.proofs.CutLaws.{element_const, element_cut, on_map}
 use Rattle.dp_lower.proofs.domains.cut_element.Goals as goal
 
 pub returns-in-Var : goal.returns-in-Var
-returns-in-Var c = 
+returns-in-Var c =
     let old = c.args.sets.now.items in
     let e : term_of c.args.items.now c.args.element ≡ Var c.var.inside.0 = sym c.term_of.ensures ∙ c.in-Var.is ∙ ap (λ (x : ℕ). Var x) (sym c.var.view_is) in
     let below : c.var.inside.0 < length old = subst (IsElement (length old) c.args.kind.now) e c.requires.below in

@@ -1,8 +1,8 @@
 -- One more gap.
 use mir.Syntax.{w64}
 use mir.Val.{SFits, of_z, to_z}
-use Rattle.std.proofs.Common.{ℤ, ◌+ℤ◌, ◌∙◌, ap, arith, get_or, pos, rules}
-use Rattle.std.proofs.lemmas.Int.{ints, to_z-of_z}
+use Rattle.std.proofs.Common.{ℤ, ◌+ℤ◌, ◌∙◌, ap, get_or, pos, rules}
+use Rattle.std.proofs.lemmas.Int.{to_z-of_z}
 use Rattle.dp_base.proofs.Lists.{Each-get_or}
 use Rattle.dp_lower.proofs.SetsLaws.{HasSmallEnds, gaps_next}
 use Rattle.dp_lower.proofs.intervals.gaps.Goals as goal

@@ -1,5 +1,5 @@
 -- The gaps so far, with those that are left, are all.
-use Rattle.std.proofs.Common.{◌≡◌, ◌++◌, drop, pos, neg_ℤ, ◌≤ℤ◌}
+use Rattle.std.proofs.Common.{◌≡◌, ◌++◌, drop, pos, neg_ℤ}
 use Rattle.std.specs.Prelude.{◌^◌}
 use Rattle.dp_lower.specs.Intervals.{gaps_from}
 use Rattle.dp_lower.proofs.intervals.gaps.Given as goal

@@ -1,5 +1,5 @@
 -- The gaps between the intervals of a domain.
-use Rattle.std.proofs.Common.{◌≡◌, ◌∙◌, ap, subst, sym}
+use Rattle.std.proofs.Common.{◌∙◌, ap, subst, sym}
 use Rattle.dp_base.specs.Lists.{Among, Each}
 use Rattle.dp_domain.specs.Sets.{Collects, IsDomain, IsSmall, LiesInOne}
 use Rattle.dp_lower.proofs.SetsLaws.{HasSmallEnds, all_gaps, gaps_collect, ok_both, small_gaps, small_intervals}

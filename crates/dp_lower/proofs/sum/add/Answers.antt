@@ -7,7 +7,7 @@ use Rattle.dp_lower.proofs.MergeLaws.{const_read}
 use Rattle.dp_lower.proofs.sum.add.Goals as goal
 
 pub returns-in-Const-clause-sum : goal.returns-in-Const-clause-sum
-returns-in-Const-clause-sum c = 
+returns-in-Const-clause-sum c =
     let fits : SFits w64 c.in-Const.value = search rules in
     let k = c.requires.merged.constant in
     let a = k.0 in let b = k.1 in

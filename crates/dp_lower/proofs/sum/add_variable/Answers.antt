@@ -5,7 +5,7 @@ use Rattle.dp_lower.proofs.MergeLaws.{added_read}
 use Rattle.dp_lower.proofs.sum.add_variable.Goals as goal
 
 pub returns : goal.returns
-returns c = 
+returns c =
     let small = c.requires.small in
     let a = small.0 in let b = small.1 in
     let before = c.coefficient_of-before.ensures.bounded in

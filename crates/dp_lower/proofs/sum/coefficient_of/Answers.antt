@@ -9,7 +9,7 @@ use Rattle.dp_lower.proofs.MergeLaws.{found_bounded}
 use Rattle.dp_lower.proofs.sum.coefficient_of.Goals as goal
 
 pub returns-clause-bounded : goal.returns-clause-bounded
-returns-clause-bounded c = 
+returns-clause-bounded c =
     let r : c.unwrap_or.result ≡ unwrap_or (get nat_cmp c.args.coefficients.now c.args.var) (pos 0) =
     c.unwrap_or.ensures ∙ ap (λ o. unwrap_or o (pos 0)) (c.copied.ensures ∙ c.get.ensures.value) in
     let h : IsBounded (10 ^ 16) c.unwrap_or.result = subst (IsBounded (10 ^ 16)) (sym r) (found_bounded (10 ^ 16) (is_at (nat_cmp c.args.var)) c.args.coefficients.now.entries c.requires) in

@@ -10,7 +10,7 @@ pub add-requires-clause-merged : goal.add-requires-clause-merged
 add-requires-clause-merged c = merged_fewer c.loop-coefficient.coefficient-index 2000000 _ (omega arith) c.loop-coefficient.invariant.merged
 
 pub loop-coefficient-preserved : goal.loop-coefficient-preserved
-loop-coefficient-preserved c = 
+loop-coefficient-preserved c =
     let narrow : SFits w64 c.loop-coefficient-item.result.0 = search rules in
     summed_next c.args.terms.now c.loop-coefficient.coefficient-index c.loop-coefficient-item.result c.loop-coefficient.coefficients.entries c.add.new.coefficients.entries _ c.add.new.constant _
     c.loop-coefficient-test.true c.requires.few c.loop-coefficient-item.is c.requires.small c.in_ok-add.ensures.word (to_z-of_z w64 c.loop-coefficient-item.result.0 narrow) c.in_ok-add.ensures.sum c.loop-coefficient.invariant

@@ -11,7 +11,7 @@ use Rattle.dp_lower.proofs.WeightLaws.{few_pairs, linear_integers, ok_map, weigh
 use Rattle.dp_lower.proofs.terms.linear_sum.Goals as goal
 
 pub of-requires-clause-few : goal.of-requires-clause-few
-of-requires-clause-few c = 
+of-requires-clause-few c =
     let cs = arg_terms c.args.items.now c.args.args.now 0 in
     let ts = arg_terms c.args.items.now c.args.args.now 1 in
     let e : c.deref-3.result.now ≡ weighted cs ts =
@@ -20,7 +20,7 @@ of-requires-clause-few c =
     subst (λ (ps : List (ℤ × Term)). length ps ≤ 2000000) (sym e) (few_pairs cs ts c.requires.coefficients.few)
 
 pub of-requires-clause-small : goal.of-requires-clause-small
-of-requires-clause-small c = 
+of-requires-clause-small c =
     let cs = arg_terms c.args.items.now c.args.args.now 0 in
     let ts = arg_terms c.args.items.now c.args.args.now 1 in
     let e : c.deref-3.result.now ≡ weighted cs ts =
@@ -29,7 +29,7 @@ of-requires-clause-small c =
     subst (λ (ps : List (ℤ × Term)). Each (λ (t : ℤ × Term). IsSmall t.0) ps) (sym e) (weighted_small cs ts c.requires.coefficients.each)
 
 pub returns-clause-integers : goal.returns-clause-integers
-returns-clause-integers c = 
+returns-clause-integers c =
     let cs = arg_terms c.args.items.now c.args.args.now 0 in
     let ts = arg_terms c.args.items.now c.args.args.now 1 in
     let e : c.deref-3.result.now ≡ weighted cs ts =

@@ -7,6 +7,6 @@ use Rattle.dp_lower.proofs.TypeLaws.{all_small, filter_same}
 use Rattle.dp_lower.proofs.types.type_domain.Goals as goal
 
 pub returns-in-Int : goal.returns-in-Int
-returns-in-Int c = 
+returns-in-Int c =
     ok_map c.range_domain-in-Int.result (λ (d : List ℤ). d ≡ filter (λ v. int_le (neg_ℤ (pos (10 ^ 9))) v && int_le v (pos (10 ^ 9))) small_numbers) (λ (d : List ℤ). d ≡ filter (is_of_type c.args.kind.now) small_numbers)
     (λ d is. is ∙ all_small ∙ filter_same (λ v. true) (is_of_type c.args.kind.now) small_numbers (λ v. rw c.in-Int.is refl)) c.range_domain-in-Int.ensures
