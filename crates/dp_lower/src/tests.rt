@@ -185,10 +185,7 @@ fn is_lowered(alloc: Global, row: Row, args: &[Arg], shapes: &[Shape]) -> Result
 }
 
 // The place of the first row whose parts are others.
-fn first_other(
-    alloc: Global,
-    rows: &[(Row, &[Arg], &[Shape])],
-) -> Result<Option<usize>, Memory> {
+fn first_other(alloc: Global, rows: &[(Row, &[Arg], &[Shape])]) -> Result<Option<usize>, Memory> {
     for (place, (row, args, shapes)) in rows.iter().enumerate() {
         if !is_lowered(alloc, *row, *args, *shapes)? {
             return Ok(Some(place));
@@ -202,15 +199,16 @@ use Shape::{AtMost, Labelled, Nogood, Other};
 
 const ROWS: [(Row, &[Arg], &[Shape]); 23] = [
     (Row::Le, &[Var(0), Int(3)], &[AtMost(&[(1, 0)], 3)]),
-    (Row::Lt, &[Var(0), Var(1)], &[AtMost(&[(1, 0), (-1, 1)], -1)]),
+    (
+        Row::Lt,
+        &[Var(0), Var(1)],
+        &[AtMost(&[(1, 0), (-1, 1)], -1)],
+    ),
     (Row::Le, &[Var(0), Var(0)], &[AtMost(&[], 0)]),
     (
         Row::Eq,
         &[Var(1), Var(0)],
-        &[
-            AtMost(&[(-1, 0), (1, 1)], 0),
-            AtMost(&[(1, 0), (-1, 1)], 0),
-        ],
+        &[AtMost(&[(-1, 0), (1, 1)], 0), AtMost(&[(1, 0), (-1, 1)], 0)],
     ),
     (Row::Ne, &[Int(5), Var(0)], &[Other(&[(-1, 0)], -5)]),
     (
@@ -230,7 +228,11 @@ const ROWS: [(Row, &[Arg], &[Shape]); 23] = [
         ],
     ),
     (Row::Pair(Pair::Le), &[Var(0), Int(1)], &[]),
-    (Row::Pair(Pair::Le), &[Var(0), Int(0)], &[Nogood(&[(0, true)])]),
+    (
+        Row::Pair(Pair::Le),
+        &[Var(0), Int(0)],
+        &[Nogood(&[(0, true)])],
+    ),
     (
         Row::Reified(Pair::Lt),
         &[Var(0), Var(1), Var(2)],
@@ -282,7 +284,11 @@ const ROWS: [(Row, &[Arg], &[Shape]); 23] = [
         ],
     ),
     (Row::Any, &[Vars(&[]), Var(2)], &[Nogood(&[(2, true)])]),
-    (Row::Clause, &[Vars(&[0, 0]), Vars(&[1])], &[Nogood(&[(0, false), (1, true)])]),
+    (
+        Row::Clause,
+        &[Vars(&[0, 0]), Vars(&[1])],
+        &[Nogood(&[(0, false), (1, true)])],
+    ),
     (
         Row::ClauseReified,
         &[Vars(&[0]), Vars(&[]), Var(2)],
@@ -294,8 +300,16 @@ const ROWS: [(Row, &[Arg], &[Shape]); 23] = [
     (Row::In, &[Int(3), Range(1, 5)], &[]),
     (Row::In, &[Int(6), Range(1, 5)], &[Nogood(&[])]),
     (Row::In, &[Var(0), Range(1, 5)], &[Labelled("domain")]),
-    (Row::Element, &[Var(0), Ints(&[4, 6]), Var(1)], &[Labelled("element")]),
-    (Row::AllDifferent, &[Vars(&[0, 1])], &[Labelled("all_different")]),
+    (
+        Row::Element,
+        &[Var(0), Ints(&[4, 6]), Var(1)],
+        &[Labelled("element")],
+    ),
+    (
+        Row::AllDifferent,
+        &[Vars(&[0, 1])],
+        &[Labelled("all_different")],
+    ),
 ];
 
 #[test]
@@ -305,11 +319,7 @@ fn parts_of_rows(rt: HostRuntime) -> Result<(), Fail> {
 }
 
 // Whether the members of the numbers or of the range lie in these intervals.
-fn are_members(
-    alloc: Global,
-    set: &SetText,
-    expected: &[(i64, i64)],
-) -> Result<bool, Memory> {
+fn are_members(alloc: Global, set: &SetText, expected: &[(i64, i64)]) -> Result<bool, Memory> {
     let intervals = members(alloc, set)?.intervals(alloc)?;
     Ok(intervals.as_slice() == expected)
 }
@@ -317,7 +327,10 @@ fn are_members(
 const RANGES: [((i64, i64), &[(i64, i64)]); 4] = [
     ((2, 4), &[(2, 4)]),
     ((4, 2), &[]),
-    ((999_999_999, 2_000_000_000), &[(999_999_999, 1_000_000_000)]),
+    (
+        (999_999_999, 2_000_000_000),
+        &[(999_999_999, 1_000_000_000)],
+    ),
     ((1_000_000_001, 1_000_000_005), &[]),
 ];
 
