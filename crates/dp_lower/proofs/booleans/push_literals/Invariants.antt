@@ -1,0 +1,8 @@
+-- What was added so far, with what is left, is the whole.
+use Rattle.std.proofs.Common.{◌≡◌, ◌++◌, drop, map}
+use Rattle.dp_lower.specs.Codes.{literal_of}
+use Rattle.dp_lower.proofs.booleans.push_literals.Given as goal
+
+abbrev pub invariant-loop-term : goal.invariant-loop-term
+invariant-loop-term l =
+    l.row.items ++ map (λ t. literal_of l.holds t) (drop l.term-index l.terms) ≡ l.initial.row.items ++ map (λ t. literal_of l.holds t) l.terms

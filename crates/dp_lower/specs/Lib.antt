@@ -1,0 +1,10 @@
+pub mod Small
+pub mod Sums
+pub mod Merged
+pub mod Sides
+pub mod Globals
+pub mod Intervals
+pub mod Recipe
+pub mod Codes
+pub mod Problem
+pub mod Cuts
