@@ -25,7 +25,7 @@ pub record IsClose {C : Type 0} (close : Close C) : Type 0 where
 pub balanced_lawful : IsLawful balanced
 balanced_lawful = inside_lawful Fault bracketing is_bracketing (Round ∷ [])
 
-tail_lawful : {C : Type 0} (close : Close C) → IsClose close → (kept : List Annotation) → IsLawful (tail (close kept))
+pub tail_lawful : {C : Type 0} (close : Close C) → IsClose close → (kept : List Annotation) → IsLawful (tail (close kept))
 tail_lawful close is kept =
     either_lawful (is_stop DoubleColon) (stop DoubleColon) (close kept) (record { first = λ x. refl; second = is.no_more kept }) (stop_lawful DoubleColon) (is.lawful kept)
 
@@ -36,7 +36,7 @@ tail_no_args close is kept (inr c) = is.no_args kept c
 abbrev after : List Annotation → List ℕ → Option Balanced → List Annotation
 after kept bytes args = kept ++ record { name = bytes; args = args } ∷ []
 
-link_parts_lawful : {C : Type 0} (close : Close C) → IsClose close → (kept : List Annotation) → IsLawful (link_parts close kept)
+pub link_parts_lawful : {C : Type 0} (close : Close C) → IsClose close → (kept : List Annotation) → IsLawful (link_parts close kept)
 link_parts_lawful close is kept =
     chain_lawful (name (λ bytes. None)) (λ bytes. either (is_open Round)
     (chain (behind_mark (opens Round) balanced) (λ args. tail (close (after kept bytes (Some args)))))

@@ -54,24 +54,24 @@ one_word_is (Plain (Stop p)) dotted e = absurd cc
 one_word_is (Opens b) dotted e = absurd cc
 one_word_is (Closes b) dotted e = absurd cc
 
-one_lawful : IsLawful one
+pub one_lawful : IsLawful one
 one_lawful = leaf_lawful (record { value = one_word; token = λ dotted. Plain (Number (pos 1) dotted); test = no_test }) (record { some = true; value_is = λ dotted. refl; token_is = one_word_is })
 
-array_size_lawful : IsLawful array_size
+pub array_size_lawful : IsLawful array_size
 array_size_lawful =
     let last = before_mark (integer no_test) (closes Square) in
     behind_mark_lawful (opens Square) (chain one (λ dotted. behind_mark (stop DoubleDot) last)) (opens_lawful Square)
     (chain_lawful one (λ dotted. behind_mark (stop DoubleDot) last) one_lawful
     (λ dotted. behind_mark_lawful (stop DoubleDot) last (stop_lawful DoubleDot) (before_mark_lawful (integer no_test) (closes Square) (integer_lawful no_test) (closes_lawful Square))))
 
-constants_lawful : (context : Context) (size : IntText) → IsLawful (constants context size)
+pub constants_lawful : (context : Context) (size : IntText) → IsLawful (constants context size)
 constants_lawful context size =
     let kinds = either (is_key key.Bool) (keyword key.Bool) (keyword key.Int) in
     chain_lawful kinds (λ kind. parameter context (array_literal (constant_element context (is_bools kind)) (size_test size)))
     (either_lawful (is_key key.Bool) (keyword key.Bool) (keyword key.Int) (record { first = λ x. refl; second = λ y. refl }) (keyword_lawful key.Bool) (keyword_lawful key.Int))
     (λ kind. parameter_lawful context (array_literal (constant_element context (is_bools kind)) (size_test size)) (array_literal_lawful (constant_element context (is_bools kind)) (size_test size)))
 
-elements_end_lawful : (context : Context) (size : IntText) (type : TypeWords) (notes : List Annotation) → IsLawful (elements_end context size type notes)
+pub elements_end_lawful : (context : Context) (size : IntText) (type : TypeWords) (notes : List Annotation) → IsLawful (elements_end context size type notes)
 elements_end_lawful context size type notes =
     let literal = array_literal (variable_element context type) (size_test size) in
     let end = tested_mark (is_stop Semicolon) (Plain (Stop Semicolon)) (notes_test size notes) in
@@ -79,7 +79,7 @@ elements_end_lawful context size type notes =
     (before_mark_lawful literal end (array_literal_lawful (variable_element context type) (size_test size))
     (tested_mark_lawful (is_stop Semicolon) (Plain (Stop Semicolon)) (notes_test size notes) (stop_is_only Semicolon)))
 
-variables_lawful : (context : Context) (size : IntText) → IsLawful (variables context size)
+pub variables_lawful : (context : Context) (size : IntText) → IsLawful (variables context size)
 variables_lawful context size =
     let names = λ (type : TypeWords). behind_mark (stop Colon) (chain (name (fresh context)) (λ bytes. annotated (elements_end (with_elements context (type_elements type)) size type))) in
     behind_mark_lawful (keyword key.Var) (chain (var_type (domain_test context) beyond_small) names) (keyword_lawful key.Var)

@@ -44,7 +44,7 @@ dotted_is (Plain (Stop p)) value e = absurd cc
 dotted_is (Opens b) value e = absurd cc
 dotted_is (Closes b) value e = absurd cc
 
-range_arg_lawful : (wanted : Option ArgKind) → IsLawful (range_arg wanted)
+pub range_arg_lawful : (wanted : Option ArgKind) → IsLawful (range_arg wanted)
 range_arg_lawful wanted =
     let low : Leaf Word Fault ℤ = record { value = dotted_of; token = λ value. Plain (Number value true); test = λ value. refuse_if (not (wants_set wanted)) Kind } in
     chain_lawful (leaf low) (λ value. behind_mark (stop DoubleDot) (integer no_test))
@@ -88,7 +88,7 @@ arg_is (Plain (Stop p)) x e = absurd cc
 arg_is (Opens b) x e = absurd cc
 arg_is (Closes b) x e = absurd cc
 
-text_arg_lawful : (context : Context) (wanted : Option ArgKind) → IsLawful (text_arg context wanted)
+pub text_arg_lawful : (context : Context) (wanted : Option ArgKind) → IsLawful (text_arg context wanted)
 text_arg_lawful context wanted =
     leaf_lawful (record { value = arg_of; token = arg_word; test = λ text. known (meaning context (arg_basic text)) (argument_test wanted) })
     (record { some = ArgTruth true; value_is = arg_is_of; token_is = arg_is })
@@ -104,7 +104,7 @@ numbers_of context = record {
   close = λ kept. closes Curly;
 }
 
-set_arg_lawful : (context : Context) (wanted : Option ArgKind) → IsLawful (set_arg context wanted)
+pub set_arg_lawful : (context : Context) (wanted : Option ArgKind) → IsLawful (set_arg context wanted)
 set_arg_lawful context wanted =
     let refusal = refuse_if (not (wants_set wanted)) Kind in
     behind_mark_lawful (tested_mark (is_open Curly) (Opens Curly) refusal) (listed (numbers_of context)) (tested_mark_lawful (is_open Curly) (Opens Curly) refusal (open_is_only Curly))
@@ -126,7 +126,7 @@ elements_of context wanted = record {
   close = λ kept. closes Square;
 }
 
-array_arg_lawful : (context : Context) (wanted : Option ArgKind) → IsLawful (array_arg context wanted)
+pub array_arg_lawful : (context : Context) (wanted : Option ArgKind) → IsLawful (array_arg context wanted)
 array_arg_lawful context wanted =
     let refusal = refuse_if (not (wants_array wanted)) Kind in
     behind_mark_lawful (tested_mark (is_open Square) (Opens Square) refusal) (listed (elements_of context wanted)) (tested_mark_lawful (is_open Square) (Opens Square) refusal (open_is_only Square))
@@ -192,7 +192,7 @@ args_listing context kind = record {
   close = λ kept. tested_mark (is_close Round) (Closes Round) (close_test context kind kept);
 }
 
-arguments_lawful : (context : Context) (kind : ConstraintKind) → IsLawful (arguments context kind)
+pub arguments_lawful : (context : Context) (kind : ConstraintKind) → IsLawful (arguments context kind)
 arguments_lawful context kind =
     behind_mark_lawful (opens Round) (listed (args_listing context kind)) (opens_lawful Round) (listed_lawful (args_listing context kind) (record {
       separates = stop_is_only Comma;
