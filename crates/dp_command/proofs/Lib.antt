@@ -1,1 +1,2 @@
-mod Posing
+pub mod Claims
+pub mod Checks

@@ -6,7 +6,7 @@ use Rattle.dp_desk.specs.Sight.{Sight}
 use Rattle.dp_command.specs.Replies.{Replies}
 use Rattle.dp_command.specs.Texts.{text_of, status_of, read_fault}
 use Rattle.dp_command.specs.declared.reply.Reply.{Reply}
-use Rattle.dp_command.specs.declared.reply.Reply.TheVariants.{NoCommand, ModelRefused, Judged}
+use Rattle.dp_command.specs.declared.reply.Reply.TheVariants.{NoCommand, ModelRefused}
 
 -- the status is that of a reply that belongs to the words and the inputs, and its text was written
 pub record Said (names : Option Files) (words : List (List ℕ)) (status : ℕ) (was now : Channel) : Type 0 where
@@ -36,8 +36,8 @@ ChangesAnswer was now = now ≡ record was { model = now.model; log = now.log; a
 -- the inputs that the reply does not need are as they were
 abbrev pub LeavesUnread : Reply → Sight → Sight → Type 0
 LeavesUnread NoCommand was now = (now.model ≡ was.model) × (now.log ≡ was.log)
-LeavesUnread ModelRefused was now = now.log ≡ was.log
-LeavesUnread (Judged answer) was now = Unit {0}
+LeavesUnread (ModelRefused refusal) was now = now.log ≡ was.log
+LeavesUnread reply was now = Unit {0}
 
 -- both inputs were read to their ends
 abbrev pub AreAtEnd : Sight → Type 0

@@ -4,3 +4,5 @@ pub mod Inputs
 pub mod Replies
 pub mod Texts
 pub mod Words
+pub mod Proved
+pub mod Found

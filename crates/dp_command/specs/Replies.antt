@@ -1,81 +1,87 @@
 -- Which reply belongs to the words and the inputs.
-use Rattle.std.specs.Prelude.{◌≡◌, ℕ, List, Option, ℤ}
+use Rattle.std.specs.Prelude.{◌≡◌, ℕ, ◌^◌, ◌+◌, Option, Ok, Err, List, [], get_or}
 use Rattle.dp_desk.specs.Channel.{Files}
+use Rattle.dp_domain.specs.declared.verdict.Verdict.{Verdict}
+use Rattle.dp_domain.specs.declared.verdict.Verdict.TheVariants as verdict
 use Rattle.dp_parts.specs.Problems.{Csp, posed}
-use Rattle.dp_small.specs.declared.answer.LogAnswer.{LogAnswer}
-use Rattle.dp_small.specs.declared.answer.LogAnswer.TheVariants.{Accepted, NotBuilt, Refused}
-use Rattle.dp_small.specs.Models.{SmallModel, IsSmallModel, model_text, Satisfies}
-use Rattle.dp_small.specs.Problems.{problem_of}
-use Rattle.dp_small.specs.Logs.{AnswersLog}
+use Rattle.dp_judge.specs.Logs.{IsGoalAnswer, IsRightAnswer, judged_log}
+use Rattle.dp_judge.specs.declared.answer.LogAnswer.{LogAnswer}
+use Rattle.dp_judge.specs.declared.answer.LogAnswer.TheVariants as answer
+use Rattle.dp_lower.specs.Problem.{problem_of}
+use Rattle.fz_items.specs.Answers.{model_text}
+use Rattle.fz_items.specs.declared.refusal.ModelRefusal.{ModelRefusal}
+use Rattle.fz_model.specs.Models.{Plan}
 use Rattle.dp_command.specs.Inputs.{IsRead}
-use Rattle.dp_command.specs.Words.{Request, Check, words_of, AreNoCommand}
+use Rattle.dp_command.specs.Words.{Check, words_of, AreNoCommand}
+use Rattle.dp_command.specs.declared.reply.Claim.{Claim}
+use Rattle.dp_command.specs.declared.reply.Claim.TheVariants as claim
 use Rattle.dp_command.specs.declared.reply.Reply.{Reply}
-use Rattle.dp_command.specs.declared.reply.Reply.TheVariants.{NoCommand, ModelRefused, Judged}
+use Rattle.dp_command.specs.declared.reply.Reply.TheVariants.{NoCommand, ModelRefused, Accepted, Unread, Refused}
 
--- so many bytes are read of an input at most: one more than a text may have
-abbrev pub most : ℕ
-most = 67108865
+-- so many bytes are read of a model at most: one more than its text may have
+abbrev pub most_of_model : ℕ
+most_of_model = 67108865
 
--- the bytes that are read of the input of this name spell no model of the small form
-pub record HasNoForm (names : Option Files) (name : List ℕ) : Type 0 where
+-- and so many of a log
+abbrev pub most_of_log : ℕ
+most_of_log = 2 ^ 40 + 1
+
+-- ---- the model
+
+-- the words ask for a check of a model by the log of this name, and these bytes are read of the model
+pub record ReadsModel (names : Option Files) (words : List (List ℕ)) (log text : List ℕ) : Type 0 where
+  pub model : List ℕ
+  pub asked : words ≡ words_of (Check model log)
+  pub read : IsRead most_of_model names model text
+
+-- the model that is read is refused so
+pub record RefusesModel (names : Option Files) (words : List (List ℕ)) (refusal : ModelRefusal) : Type 0 where
+  pub log : List ℕ
   pub text : List ℕ
-  pub read : IsRead most names name text
-  pub formless : (m : SmallModel) → IsSmallModel m → text ≡ model_text m → ⊥
+  pub read : ReadsModel names words log text
+  pub refused : model_text text ≡ Err refusal
 
--- the bytes that are read of the input of this name spell this model of the small form
-pub record Spells (names : Option Files) (name : List ℕ) (m : SmallModel) : Type 0 where
-  pub read : IsRead most names name (model_text m)
-  pub form : IsSmallModel m
+-- a model is read that this text spells
+pub record IsGiven (names : Option Files) (words : List (List ℕ)) (log : List ℕ) (m : Plan) : Type 0 where
+  pub text : List ℕ
+  pub read : ReadsModel names words log text
+  pub spelled : model_text text ≡ Ok m
 
--- the words ask for a check of a model that has not the small form
-pub record RefusesModel (names : Option Files) (words : List (List ℕ)) : Type 0 where
-  pub model : List ℕ
-  pub log : List ℕ
-  pub asked : words ≡ words_of (Check model log)
-  pub formless : HasNoForm names model
+-- ---- the log
 
--- the words ask for a check of this model of the small form by the log of this name
-pub record ChecksModel (names : Option Files) (words : List (List ℕ)) (log : List ℕ) (m : SmallModel) : Type 0 where
-  pub model : List ℕ
-  pub asked : words ≡ words_of (Check model log)
-  pub spelled : Spells names model m
+-- the own name of the variable
+abbrev pub own_name : Csp → ℕ → List ℕ
+own_name p x = (get_or p.names (get_or p.own x 0) ([], 0)).0
 
--- the words ask for a check of a model of the small form, and this is the answer for the bytes that are read of the log
-pub record JudgesLog (names : Option Files) (words : List (List ℕ)) (answer : LogAnswer) : Type 0 where
-  pub log : List ℕ
-  pub m : SmallModel
-  pub model : ChecksModel names words log m
+-- what is concluded, by name
+abbrev pub claim_of : Csp → Verdict → Claim
+claim_of p verdict.Unsat = claim.Unsat
+claim_of p (verdict.Bound a) = claim.Bound (own_name p a.var) a.op a.value
+
+-- the reply that an answer for a log of the problem becomes
+abbrev pub reply_of : Csp → LogAnswer → Reply
+reply_of p (answer.Accepted verdict) = Accepted (claim_of p verdict)
+reply_of p (answer.Unread refusal) = Unread refusal
+reply_of p (answer.Refused refusal text) = Refused refusal text
+
+-- The reply is that for the bytes that are read of the log of this name; where it accepts, what is concluded is right of the
+-- problem.
+pub record IsJudged (names : Option Files) (log : List ℕ) (p : Csp) (reply : Reply) : Type 0 where
   pub lines : List ℕ
-  pub read : IsRead most names log lines
-  pub answers : AnswersLog (posed (problem_of m)) lines answer
+  pub read : IsRead most_of_log names log lines
+  pub replied : reply ≡ reply_of p (judged_log (posed p) lines)
+  pub right : IsRightAnswer p (judged_log (posed p) lines)
+  pub goal : IsGoalAnswer p (judged_log (posed p) lines)
+
+-- a model is read, and its log is judged so
+pub record JudgesLog (names : Option Files) (words : List (List ℕ)) (reply : Reply) : Type 0 where
+  pub log : List ℕ
+  pub m : Plan
+  pub given : IsGiven names words log m
+  pub judged : IsJudged names log (problem_of m) reply
 
 -- the reply that belongs to the words and to what is read of the inputs that they name
 abbrev pub Replies : Option Files → List (List ℕ) → Reply → Type 0
 Replies names words NoCommand = AreNoCommand words
-Replies names words ModelRefused = RefusesModel names words
-Replies names words (Judged answer) = JudgesLog names words answer
-
--- the words ask for a check of a model of the small form, and no integers within its bounds meet all its inequalities
-pub record IsUnsatisfiable (names : Option Files) (words : List (List ℕ)) : Type 0 where
-  pub log : List ℕ
-  pub m : SmallModel
-  pub model : ChecksModel names words log m
-  pub none : (s : List ℕ → ℤ) → Satisfies s m → ⊥
-
--- an accepted log proves that the model cannot be satisfied
-abbrev pub IsSoundAnswer : Option Files → List (List ℕ) → LogAnswer → Type 0
-IsSoundAnswer names words Accepted = IsUnsatisfiable names words
-IsSoundAnswer names words (NotBuilt number) = Unit {0}
-IsSoundAnswer names words (Refused why number bytes) = Unit {0}
-
--- so does the reply that says so
-abbrev pub IsSound : Option Files → List (List ℕ) → Reply → Type 0
-IsSound names words NoCommand = Unit {0}
-IsSound names words ModelRefused = Unit {0}
-IsSound names words (Judged answer) = IsSoundAnswer names words answer
-
--- the bytes that are read of the input of this name spell a model of the small form, and this is its problem
-pub record Poses (names : Option Files) (name : List ℕ) (problem : Csp) : Type 0 where
-  pub m : SmallModel
-  pub spelled : Spells names name m
-  pub posed : problem ≡ problem_of m
+Replies names words (ModelRefused refusal) = RefusesModel names words refusal
+Replies names words reply = JudgesLog names words reply

@@ -1,51 +1,114 @@
 -- The texts and the statuses of replies.
-use Rattle.std.specs.Prelude.{ℕ, List, [], ◌∷◌, ◌++◌, codes}
+use Rattle.std.specs.Prelude.{ℕ, Option, Some, None, List, [], ◌∷◌, ◌++◌, codes}
 use Rattle.std.specs.Fmt.{decimal}
+use Rattle.dp_checker.specs.declared.refusal.StepRefusal.{StepRefusal}
 use Rattle.dp_checker.specs.declared.refusal.Why.{Why}
-use Rattle.dp_checker.specs.declared.refusal.Why.TheVariants.{NotImplied, NoClash, NotConcluded}
-use Rattle.dp_small.specs.declared.answer.LogAnswer.{LogAnswer}
-use Rattle.dp_small.specs.declared.answer.LogAnswer.TheVariants.{Accepted, NotBuilt, Refused}
+use Rattle.dp_checker.specs.declared.refusal.Why.TheVariants.{AfterConclusion, UnknownVar, AtomTwice, UnknownAtom, StepTwice, UnknownStep, UnknownConstraint, WrongLabel, NotImplied, NoClash, NoGoal, WrongBound, NotConcluded, NoConclusion}
+use Rattle.dp_lines.specs.Spelling.{atom_text, signed}
+use Rattle.dp_lines.specs.declared.refusal.LineRefusal.{LineRefusal}
+use Rattle.dp_lines.specs.declared.refusal.LineRefusal.TheVariants as unread
+use Rattle.fz_items.specs.Answers.{place_of}
+use Rattle.fz_items.specs.declared.refusal.ModelRefusal.{ModelRefusal}
+use Rattle.fz_items.specs.declared.refusal.ModelRefusal.TheVariants as model
+use Rattle.dp_command.specs.declared.reply.Claim.{Claim}
+use Rattle.dp_command.specs.declared.reply.Claim.TheVariants.{Unsat, Bound}
 use Rattle.dp_command.specs.declared.reply.Reply.{Reply}
-use Rattle.dp_command.specs.declared.reply.Reply.TheVariants.{NoCommand, ModelRefused, Judged}
+use Rattle.dp_command.specs.declared.reply.Reply.TheVariants.{NoCommand, ModelRefused, Accepted, Unread, Refused}
 
 -- a line of text, with its end
 abbrev pub line : List ℕ → List ℕ
 line text = text ++ 10 ∷ []
 
--- the name of a refusal; those that have no name of their own yet are not built
-abbrev pub name_of : Why → List ℕ
-name_of NotImplied = codes "NotImplied"
-name_of NoClash = codes "NoClash"
-name_of NotConcluded = codes "NotConcluded"
-name_of _ = codes "NotBuilt"
+-- ---- models
 
--- the line that tells a refusal by its name, and the number of the refused line
-abbrev pub refusal : List ℕ → ℕ → List ℕ
-refusal name number = line (codes "refused: " ++ name ++ codes " at line " ++ decimal number)
+-- the name of a refusal of a model
+abbrev pub model_word : ModelRefusal → List ℕ
+model_word (model.BadByte at) = codes "BadByte"
+model_word (model.Number at) = codes "Number"
+model_word (model.OpenString at) = codes "OpenString"
+model_word (model.Unsupported at) = codes "Unsupported"
+model_word (model.Syntax at) = codes "Syntax"
+model_word (model.Unbounded at) = codes "Unbounded"
+model_word (model.Unknown at) = codes "Unknown"
+model_word (model.Declared at) = codes "Declared"
+model_word (model.Kind at) = codes "Kind"
+model_word (model.Limit at) = codes "Limit"
+model_word model.Memory = []
 
--- the text of what is answered for a log; a refused line that is told follows its refusal
-abbrev pub log_text : LogAnswer → List ℕ
-log_text Accepted = line (codes "accepted: UNSAT")
-log_text (NotBuilt number) = refusal (codes "NotBuilt") number
-log_text (Refused why number bytes) = refusal (name_of why) number ++ line bytes
+-- the line that tells a refusal of a model by its name and place
+abbrev pub model_refused : List ℕ → ℕ → List ℕ
+model_refused word at = codes "model refused: " ++ (word ++ (codes " at byte " ++ (decimal at ++ 10 ∷ [])))
+
+-- the line that tells a refused model
+abbrev pub model_refusal : ModelRefusal → List ℕ
+model_refusal refusal = model_refused (model_word refusal) (place_of refusal)
+
+-- ---- logs
+
+-- the name of a test that refuses a line, with its number where it has one
+abbrev pub why_words : Why → List ℕ
+why_words AfterConclusion = codes "AfterConclusion"
+why_words UnknownVar = codes "UnknownVar"
+why_words AtomTwice = codes "AtomTwice"
+why_words (UnknownAtom literal) = codes "UnknownAtom " ++ signed literal
+why_words StepTwice = codes "StepTwice"
+why_words (UnknownStep hint) = codes "UnknownStep " ++ decimal hint
+why_words UnknownConstraint = codes "UnknownConstraint"
+why_words WrongLabel = codes "WrongLabel"
+why_words NotImplied = codes "NotImplied"
+why_words NoClash = codes "NoClash"
+why_words NoGoal = codes "NoGoal"
+why_words WrongBound = codes "WrongBound"
+why_words NotConcluded = codes "NotConcluded"
+why_words NoConclusion = codes "NoConclusion"
+
+-- the words that tell a refusal by its name, and the number of the refused line
+abbrev pub refused_words : List ℕ → ℕ → List ℕ
+refused_words name number = codes "refused: " ++ name ++ codes " at line " ++ decimal number
+
+-- the line that tells a refusal, with the byte behind
+abbrev pub refused_at : List ℕ → ℕ → ℕ → List ℕ
+refused_at name number byte = line (refused_words name number ++ codes " byte " ++ decimal byte)
+
+-- the text where a line could not be read
+abbrev pub unread_text : LineRefusal → List ℕ
+unread_text (unread.Form number byte) = refused_at (codes "Form") number byte
+unread_text (unread.Number number byte) = refused_at (codes "Number") number byte
+unread_text (unread.TooLong number) = line (refused_words (codes "TooLong") number)
+unread_text (unread.LogTooLong number) = line (refused_words (codes "LogTooLong") number)
+unread_text (unread.NotBuilt number) = line (refused_words (codes "NotBuilt") number)
+
+-- the refused line itself, where one is told
+abbrev pub told : Option (List ℕ) → List ℕ
+told None = []
+told (Some text) = text
+
+-- the text where a test refuses a line, which follows its refusal
+abbrev pub refused_text : StepRefusal → Option (List ℕ) → List ℕ
+refused_text refusal text = line (refused_words (why_words refusal.why) refusal.line) ++ told text
+
+-- what is concluded
+abbrev pub claim_words : Claim → List ℕ
+claim_words Unsat = codes "UNSAT"
+claim_words (Bound name op value) = atom_text name op value
+
+-- ---- replies
 
 -- the text of a reply
 abbrev pub text_of : Reply → List ℕ
 text_of NoCommand = line (codes "words not understood")
-text_of ModelRefused = line (codes "model refused: NotBuilt")
-text_of (Judged answer) = log_text answer
-
--- the status of what is answered for a log
-abbrev pub log_status : LogAnswer → ℕ
-log_status Accepted = 0
-log_status (NotBuilt number) = 1
-log_status (Refused why number bytes) = 1
+text_of (ModelRefused refusal) = model_refusal refusal
+text_of (Accepted claim) = line (codes "accepted: " ++ claim_words claim)
+text_of (Unread refusal) = unread_text refusal
+text_of (Refused refusal text) = refused_text refusal text
 
 -- the status of a reply
 abbrev pub status_of : Reply → ℕ
 status_of NoCommand = 2
-status_of ModelRefused = 3
-status_of (Judged answer) = log_status answer
+status_of (ModelRefused refusal) = 3
+status_of (Accepted claim) = 0
+status_of (Unread refusal) = 1
+status_of (Refused refusal text) = 1
 
 -- the text where an input could not be read
 abbrev pub read_fault : List ℕ

@@ -7,7 +7,8 @@ ghost use Rattle.dp_command.specs.Asked.{asked};
 ghost use Rattle.dp_command.specs.Words.{words_of};
 ghost use Rattle.dp_command.specs.Inputs.{HasReadCause};
 ghost use Rattle.dp_command.specs.Due.{Said, SaidPart, ChangesInputs, ChangesAnswer, LeavesUnread, AreAtEnd};
-ghost use Rattle.dp_command.specs.Replies.{Replies, IsSound, IsUnsatisfiable};
+ghost use Rattle.dp_command.specs.Proved.{IsSound, SaysTruth};
+ghost use Rattle.dp_command.specs.Replies.{Replies};
 ghost use Rattle.dp_command.specs.Texts.{read_fault, status_of};
 
 use crate::check::check;
@@ -33,8 +34,8 @@ pub fn run<D: Desk>(alloc: Global, words: &[&str], desk: &mut D) -> u8
     // The status and the text are those of the reply that belongs to the words and the inputs.
     ensures answered { let texts = map (λ w. w.now) words.now in result ≤ 4 → Said (D.sight desk.old).names texts result (D.sight desk.old).answer (D.sight desk.new).answer }
 
-    // An accepted log proves that the model cannot be satisfied.
-    ensures sound { let texts = map (λ w. w.now) words.now in result ≡ 0 → IsUnsatisfiable (D.sight desk.old).names texts }
+    // What is written of an accepted log is true of the model, in the meaning of its constraints.
+    ensures sound { let texts = map (λ w. w.now) words.now in result ≡ 0 → SaysTruth (D.sight desk.old).names texts (D.sight desk.old).answer (D.sight desk.new).answer }
     ensures ended { result ≡ 0 → AreAtEnd (D.sight desk.new) }
     ensures unread_words { result ≡ 2 → (D.sight desk.new).model ≡ (D.sight desk.old).model × ((D.sight desk.new).log ≡ (D.sight desk.old).log) }
     ensures unread_log { result ≡ 3 → (D.sight desk.new).log ≡ (D.sight desk.old).log }
@@ -66,7 +67,7 @@ pub fn run<D: Desk>(alloc: Global, words: &[&str], desk: &mut D) -> u8
 // Reads and judges what the words ask for, and writes nothing.
 fn reply_to<D: Desk>(alloc: Global, words: &[&str], desk: &mut D) -> Result<Reply, Trouble>
     ensures due { let texts = map (λ w. w.now) words.now in IfOk result (λ reply. Replies (D.sight desk.old).names texts reply) }
-    ensures sound { let texts = map (λ w. w.now) words.now in IfOk result (λ reply. status_of reply ≡ 0 → IsUnsatisfiable (D.sight desk.old).names texts) }
+    ensures sound { let texts = map (λ w. w.now) words.now in IfOk result (λ reply. IsSound (D.sight desk.old).names texts reply) }
     ensures ended { IfOk result (λ reply. status_of reply ≡ 0 → AreAtEnd (D.sight desk.new)) }
     ensures unread { IfOk result (λ reply. LeavesUnread reply (D.sight desk.old) (D.sight desk.new)) }
     ensures rest { ChangesInputs (D.sight desk.old) (D.sight desk.new) }

@@ -22,6 +22,7 @@ pub(crate) fn read_whole<D: Desk>(
     bound: usize,
 ) -> Result<Vec<u8>, Trouble>
     ensures bytes { IfOk result (λ bytes. IsRead bound (D.sight desk.old).names name.now bytes.items) }
+    ensures bound { IfOk result (λ bytes. length bytes.items ≤ bound) }
     ensures end { IfOk result (λ bytes. length bytes.items < bound → IsAtEnd (input which (D.sight desk.new))) }
     ensures rest { D.sight desk.new ≡ with_input which (input which (D.sight desk.new)) (D.sight desk.old) }
     ensures cause { HasReadCause (D.faults_in desk.old) (D.faults_in desk.new) result }

@@ -1,22 +1,44 @@
 // Replies, with their texts and statuses.
 
-ghost use Rattle.std.specs.Prelude.{◌≡◌, IfOk};
+ghost use Rattle.std.specs.Prelude.{◌≡◌, ◌++◌, ◌∷◌, [], IfOk, OnOk, codes};
+ghost use Rattle.std.specs.Fmt.{decimal};
+ghost use Rattle.fz_items.specs.Answers.{place_of};
 ghost use Rattle.dp_command.specs.Texts as texts;
+ghost use Rattle.dp_command.specs.declared.reply.Reply.TheVariants.{Accepted};
 
-use dp_base::Memory;
-use dp_checker::Why;
-use dp_small::LogAnswer;
+use dp_base::{Memory, Name, Text};
+use dp_checker::{StepRefusal, Why};
+use dp_domain::Op;
+use dp_lines::{LineRefusal, push_atom_text};
+use fz_items::ModelRefusal;
 use std::alloc::Global;
+
+/// What an accepted log concludes.
+#[derive(Debug, Drop)]
+pub(crate) enum Claim {
+    /// No assignment satisfies the model.
+    Unsat,
+    /// No assignment beats this bound on the goal's variable.
+    Bound {
+        name: Name,
+        op: Op,
+        value: i64,
+    },
+}
 
 /// What the program says where nothing fails.
 #[derive(Debug, Drop)]
 pub(crate) enum Reply {
     /// The words are no command.
     NoCommand,
-    /// The model has not the form.
-    ModelRefused,
-    /// What is answered for the log.
-    Judged(LogAnswer),
+    /// The text of the model is refused.
+    ModelRefused(ModelRefusal),
+    /// The log is accepted, and concludes this.
+    Accepted(Claim),
+    /// A line of the log could not be read.
+    Unread(LineRefusal),
+    /// A test refuses a line of the log, which is spelled so; or the log has no conclusion.
+    Refused(StepRefusal, Option<Text>),
 }
 
 impl Reply {
@@ -26,9 +48,9 @@ impl Reply {
     {
         match self {
             Reply::NoCommand => 2,
-            Reply::ModelRefused => 3,
-            Reply::Judged(LogAnswer::Accepted) => 0,
-            Reply::Judged(LogAnswer::NotBuilt(_) | LogAnswer::Refused(..)) => 1,
+            Reply::ModelRefused(_) => 3,
+            Reply::Accepted(_) => 0,
+            Reply::Unread(_) | Reply::Refused(..) => 1,
         }
     }
 
@@ -38,44 +60,157 @@ impl Reply {
     {
         match self {
             Reply::NoCommand => Ok(b"words not understood\n".to_vec(alloc)?),
-            Reply::ModelRefused => Ok(b"model refused: NotBuilt\n".to_vec(alloc)?),
-            Reply::Judged(answer) => log_text(alloc, answer),
+            Reply::ModelRefused(refusal) => model_refusal(alloc, *refusal),
+            Reply::Accepted(claim) => accepted(alloc, claim),
+            Reply::Unread(refusal) => unread(alloc, *refusal),
+            Reply::Refused(refusal, text) => refused(alloc, *refusal, text),
         }
     }
 }
 
-// The text of what is answered for a log.
-fn log_text(alloc: Global, answer: &LogAnswer) -> Result<Vec<u8>, Memory>
-    ensures { IfOk result (λ text. text.items ≡ texts.log_text answer.now) }
+// The line that tells a refused model.
+fn model_refusal(alloc: Global, refusal: ModelRefusal) -> Result<Vec<u8>, Memory>
+    ensures { IfOk result (λ text. text.items ≡ texts.model_refusal refusal) }
 {
-    match answer {
-        LogAnswer::Accepted => Ok(b"accepted: UNSAT\n".to_vec(alloc)?),
-        LogAnswer::NotBuilt(number) => refusal(alloc, "NotBuilt", *number),
-        LogAnswer::Refused(why, number, bytes) => {
-            let mut text = refusal(alloc, name_of(*why), *number)?;
-            text.extend_from_slice(bytes.bytes())?;
-            text.push(b'\n')?;
-            Ok(text)
-        }
+    model_refused(alloc, model_word(refusal), place_of(refusal))
+}
+
+fn model_refused(alloc: Global, word: &str, at: usize) -> Result<Vec<u8>, Memory>
+    ensures { IfOk result (λ text. text.items ≡ texts.model_refused word.now at) }
+{
+    let mut text = b"model refused: ".to_vec(alloc)?;
+    push_place(&mut text, word, at)?;
+    Ok(text)
+}
+
+// The name and the place of a refusal of a model.
+fn push_place(text: &mut Vec<u8>, word: &str, at: usize) -> Result<(), Memory>
+    ensures { OnOk result (text.new.items ≡ text.old.items ++ (word.now ++ (codes " at byte " ++ (decimal at ++ 10 ∷ [])))) }
+{
+    let alloc = *text.allocator();
+    let place = format!(in alloc; "{word} at byte {at}\n")?;
+    text.extend_from_slice(place.as_bytes())?;
+    Ok(())
+}
+
+// The name of a refusal of a model.
+fn model_word(refusal: ModelRefusal) -> &'static str
+    ensures { result.now ≡ texts.model_word refusal }
+{
+    match refusal {
+        ModelRefusal::BadByte(_) => "BadByte",
+        ModelRefusal::Number(_) => "Number",
+        ModelRefusal::OpenString(_) => "OpenString",
+        ModelRefusal::Unsupported(_) => "Unsupported",
+        ModelRefusal::Syntax(_) => "Syntax",
+        ModelRefusal::Unbounded(_) => "Unbounded",
+        ModelRefusal::Unknown(_) => "Unknown",
+        ModelRefusal::Declared(_) => "Declared",
+        ModelRefusal::Kind(_) => "Kind",
+        ModelRefusal::Limit(_) => "Limit",
+        ModelRefusal::Memory => "",
     }
 }
 
-// The line that tells a refusal.
-fn refusal(alloc: Global, name: &str, number: u64) -> Result<Vec<u8>, Memory>
-    ensures { IfOk result (λ text. text.items ≡ texts.refusal name.now number) }
+// The place of a refusal of a model.
+fn place_of(refusal: ModelRefusal) -> usize
+    ensures { result ≡ place_of refusal }
 {
-    let text = format!(in alloc; "refused: {name} at line {number}\n")?;
+    match refusal {
+        ModelRefusal::BadByte(at)
+        | ModelRefusal::Number(at)
+        | ModelRefusal::OpenString(at)
+        | ModelRefusal::Unsupported(at)
+        | ModelRefusal::Syntax(at)
+        | ModelRefusal::Unbounded(at)
+        | ModelRefusal::Unknown(at)
+        | ModelRefusal::Declared(at)
+        | ModelRefusal::Kind(at)
+        | ModelRefusal::Limit(at) => at,
+        ModelRefusal::Memory => 0,
+    }
+}
+
+// The line that tells an accepted log.
+fn accepted(alloc: Global, claim: &Claim) -> Result<Vec<u8>, Memory>
+    ensures { IfOk result (λ text. text.items ≡ texts.text_of (Accepted claim.now)) }
+{
+    let mut text = b"accepted: ".to_vec(alloc)?;
+    match claim {
+        Claim::Unsat => text.extend_from_slice(b"UNSAT")?,
+        Claim::Bound { name, op, value } => push_atom_text(&mut text, name.bytes(), *op, *value)?,
+    }
+    text.push(b'\n')?;
+    Ok(text)
+}
+
+// The line that tells a line that could not be read.
+fn unread(alloc: Global, refusal: LineRefusal) -> Result<Vec<u8>, Memory>
+    ensures { IfOk result (λ text. text.items ≡ texts.unread_text refusal) }
+{
+    match refusal {
+        LineRefusal::Form(line, byte) => refused_at(alloc, "Form", line, byte),
+        LineRefusal::Number(line, byte) => refused_at(alloc, "Number", line, byte),
+        LineRefusal::TooLong(line) => refused_line(alloc, "TooLong", line),
+        LineRefusal::LogTooLong(line) => refused_line(alloc, "LogTooLong", line),
+        LineRefusal::NotBuilt(line) => refused_line(alloc, "NotBuilt", line),
+    }
+}
+
+fn refused_at(alloc: Global, name: &str, line: u64, byte: u64) -> Result<Vec<u8>, Memory>
+    ensures { IfOk result (λ text. text.items ≡ texts.refused_at name.now line byte) }
+{
+    let text = format!(in alloc; "refused: {name} at line {line} byte {byte}\n")?;
     Ok(text.into_bytes())
 }
 
-// The name of a refusal.
-fn name_of(why: Why) -> &'static str
-    ensures { result.now ≡ texts.name_of why }
+fn refused_line(alloc: Global, name: &str, line: u64) -> Result<Vec<u8>, Memory>
+    ensures { IfOk result (λ text. text.items ≡ texts.line (texts.refused_words name.now line)) }
 {
-    match why {
-        Why::NotImplied => "NotImplied",
-        Why::NoClash => "NoClash",
-        Why::NotConcluded => "NotConcluded",
-        _ => "NotBuilt",
+    let text = format!(in alloc; "refused: {name} at line {line}\n")?;
+    Ok(text.into_bytes())
+}
+
+// The text where a test refuses a line.
+fn refused(
+    alloc: Global,
+    refusal: StepRefusal,
+    told: &Option<Text>,
+) -> Result<Vec<u8>, Memory>
+    ensures { IfOk result (λ text. text.items ≡ texts.refused_text refusal told.now) }
+{
+    let mut text = refusal_line(alloc, refusal)?;
+    if let Some(line) = told {
+        text.extend_from_slice(line.bytes())?;
+    }
+    Ok(text)
+}
+
+// The line that tells which test refuses which line.
+fn refusal_line(alloc: Global, refusal: StepRefusal) -> Result<Vec<u8>, Memory>
+    ensures { IfOk result (λ text. text.items ≡ texts.line (texts.refused_words (texts.why_words refusal.why) refusal.line)) }
+{
+    let line = refusal.line;
+    match refusal.why {
+        Why::UnknownAtom(literal) => {
+            let text = format!(in alloc; "refused: UnknownAtom {literal} at line {line}\n")?;
+            Ok(text.into_bytes())
+        }
+        Why::UnknownStep(hint) => {
+            let text = format!(in alloc; "refused: UnknownStep {hint} at line {line}\n")?;
+            Ok(text.into_bytes())
+        }
+        Why::AfterConclusion => refused_line(alloc, "AfterConclusion", line),
+        Why::UnknownVar => refused_line(alloc, "UnknownVar", line),
+        Why::AtomTwice => refused_line(alloc, "AtomTwice", line),
+        Why::StepTwice => refused_line(alloc, "StepTwice", line),
+        Why::UnknownConstraint => refused_line(alloc, "UnknownConstraint", line),
+        Why::WrongLabel => refused_line(alloc, "WrongLabel", line),
+        Why::NotImplied => refused_line(alloc, "NotImplied", line),
+        Why::NoClash => refused_line(alloc, "NoClash", line),
+        Why::NoGoal => refused_line(alloc, "NoGoal", line),
+        Why::WrongBound => refused_line(alloc, "WrongBound", line),
+        Why::NotConcluded => refused_line(alloc, "NotConcluded", line),
+        Why::NoConclusion => refused_line(alloc, "NoConclusion", line),
     }
 }

@@ -1,6 +1,22 @@
-use Rattle.dp_command.proofs.Posing.{sound_answer}
+-- The reply for a model that was read and a log that was judged.
+use Rattle.std.proofs.Common.{ap}
+use Rattle.dp_desk.specs.Sight.{Sight}
+use Rattle.dp_command.proofs.Checks.{due_at, ended_at, if_ok, sound_at, unread_of}
 use Rattle.dp_command.proofs.check.check.Goals as goal
 
-pub returns-in_ok-answer-in-Some-clause-sound : goal.returns-in_ok-answer-in-Some-clause-sound
-returns-in_ok-answer-in-Some-clause-sound g c =
-    sound_answer _ _ _ _ _ (rw c.in-Some.is at c.in_ok-problem.ensures.read) c.in_ok-answer-in-Some.ensures.sound
+pub returns-in-Problem-clause-due : goal.returns-in-Problem-clause-due
+returns-in-Problem-clause-due g c =
+    if_ok c.judge_input.result (λ reply j. due_at (g.D.Desk.sight c.args.desk.now).names _ c.args.model.now c.args.log.now c.in-Problem.problem reply c.in_ok-problem.field-0
+    (ap (λ (t : Sight). t.names) c.read_problem.ensures.rest) c.in-Problem.is c.in_ok-problem.ensures.read j) c.judge_input.ensures.reply
+
+pub returns-in-Problem-clause-sound : goal.returns-in-Problem-clause-sound
+returns-in-Problem-clause-sound g c =
+    if_ok c.judge_input.result (λ reply j. sound_at (g.D.Desk.sight c.args.desk.now).names _ c.args.model.now c.args.log.now c.in-Problem.problem reply c.in_ok-problem.field-0
+    (ap (λ (t : Sight). t.names) c.read_problem.ensures.rest) c.in-Problem.is c.in_ok-problem.ensures.read j) c.judge_input.ensures.reply
+
+pub returns-in-Problem-clause-ended : goal.returns-in-Problem-clause-ended
+returns-in-Problem-clause-ended g c =
+    if_ok c.judge_input.result (λ reply h. ended_at reply c.in-Problem.problem c.in_ok-problem.field-0 (g.D.Desk.sight c.read_problem.new.desk) (g.D.Desk.sight c.judge_input.new.desk) c.in-Problem.is c.judge_input.ensures.rest c.in_ok-problem.ensures.ended h) c.judge_input.ensures.ended
+
+pub returns-in-Problem-clause-unread : goal.returns-in-Problem-clause-unread
+returns-in-Problem-clause-unread g c = if_ok c.judge_input.result (λ reply j. unread_of _ _ c.in-Problem.problem reply _ _ j) c.judge_input.ensures.reply

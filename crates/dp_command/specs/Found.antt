@@ -1,0 +1,41 @@
+-- What is found where a model is read.
+use Rattle.std.specs.Prelude.{◌≡◌, ℕ, Option, Ok, Err, List}
+use Rattle.dp_desk.specs.Channel.{Files}
+use Rattle.dp_domain.specs.declared.verdict.Verdict.{Verdict}
+use Rattle.dp_judge.specs.Logs.{IsOfGoal}
+use Rattle.dp_checker.specs.Kept.{IsRight}
+use Rattle.dp_lower.specs.Problem.{problem_of}
+use Rattle.dp_parts.specs.Problems.{Csp}
+use Rattle.fz_items.specs.Answers.{model_text}
+use Rattle.fz_model.specs.Models.{Plan}
+use Rattle.dp_command.specs.Inputs.{IsRead}
+use Rattle.dp_command.specs.Proved.{IsTrueOf}
+use Rattle.dp_command.specs.Replies.{claim_of, most_of_model}
+use Rattle.dp_command.specs.declared.check.Found.{Found}
+use Rattle.dp_command.specs.declared.check.Found.TheVariants.{Problem, Refusal}
+
+-- the problem is the model's, and what is right of it, as a conclusion on the goal, is true of the model
+pub record IsProblemOf (m : Plan) (p : Csp) : Type 0 where
+  pub posed : p ≡ problem_of m
+  pub true_of : (v : Verdict) → IsRight p v → IsOfGoal p v → IsTrueOf m (claim_of p v)
+
+-- the text spells a model of this problem
+pub record Poses (text : List ℕ) (p : Csp) : Type 0 where
+  pub m : Plan
+  pub spelled : model_text text ≡ Ok m
+  pub problem : IsProblemOf m p
+
+-- the problem of the model that the text spells, or the refusal of the text
+abbrev pub IsFoundIn : List ℕ → Found → Type 0
+IsFoundIn text (Problem p) = Poses text p
+IsFoundIn text (Refusal refusal) = model_text text ≡ Err refusal
+
+-- this is found in the bytes that are read of the model of this name
+pub record IsFound (names : Option Files) (name : List ℕ) (what : Found) : Type 0 where
+  pub text : List ℕ
+  pub read : IsRead most_of_model names name text
+  pub found : IsFoundIn text what
+
+abbrev pub IsProblemFound : Found → Type 0
+IsProblemFound (Problem p) = Unit {0}
+IsProblemFound (Refusal refusal) = ⊥

@@ -1,0 +1,54 @@
+-- What an accepted log proves of the model, in words that know no parts and no steps.
+use Rattle.std.specs.Prelude.{◌≡◌, ℕ, true, Option, Some, List, ℤ}
+use Rattle.dp_desk.specs.Channel.{Channel, Files, Grows}
+use Rattle.dp_domain.specs.Atoms.{compares}
+use Rattle.dp_domain.specs.declared.atom.Op.{Op}
+use Rattle.dp_domain.specs.declared.atom.Op.TheVariants.{Ge, Le}
+use Rattle.fz_model.specs.Models.{Plan}
+use Rattle.fz_model.specs.declared.model.ModelGoal.{ModelGoal}
+use Rattle.fz_model.specs.declared.model.ModelGoal.TheVariants.{Satisfy, Minimize, Maximize}
+use Rattle.fz_sat.specs.Satisfies.{Satisfies, objective_of}
+use Rattle.dp_command.specs.Replies.{IsGiven}
+use Rattle.dp_command.specs.Texts.{text_of}
+use Rattle.dp_command.specs.declared.reply.Claim.{Claim}
+use Rattle.dp_command.specs.declared.reply.Claim.TheVariants.{Unsat, Bound}
+use Rattle.dp_command.specs.declared.reply.Reply.{Reply}
+use Rattle.dp_command.specs.declared.reply.Reply.TheVariants.{Accepted}
+
+-- no assignment satisfies the model
+abbrev pub IsUnsatisfiable : Plan → Type 0
+IsUnsatisfiable m = (s : ℕ → ℤ) → Satisfies m s → ⊥
+
+-- a bound from below is wanted where the least is, and one from above where the greatest is
+abbrev pub IsSideOf : ModelGoal → Op → Type 0
+IsSideOf Satisfy op = ⊥
+IsSideOf (Minimize place) op = op ≡ Ge
+IsSideOf (Maximize place) op = op ≡ Le
+
+-- no assignment that satisfies the model beats the bound
+pub record IsBest (m : Plan) (op : Op) (value : ℤ) : Type 0 where
+  pub side : IsSideOf m.goal op
+  pub none : (s : ℕ → ℤ) (v : ℤ) → Satisfies m s → objective_of m s ≡ Some v → compares op v value ≡ true
+
+-- the claim is true of the model
+abbrev pub IsTrueOf : Plan → Claim → Type 0
+IsTrueOf m Unsat = IsUnsatisfiable m
+IsTrueOf m (Bound name op value) = IsBest m op value
+
+-- the words ask for a check of a model, and the claim is true of the model that its text spells
+pub record IsProved (names : Option Files) (words : List (List ℕ)) (claim : Claim) : Type 0 where
+  pub log : List ℕ
+  pub m : Plan
+  pub given : IsGiven names words log m
+  pub holds : IsTrueOf m claim
+
+-- a reply that accepts says what is true
+abbrev pub IsSound : Option Files → List (List ℕ) → Reply → Type 0
+IsSound names words (Accepted claim) = IsProved names words claim
+IsSound names words reply = Unit {0}
+
+-- a claim was written that is true of the model
+pub record SaysTruth (names : Option Files) (words : List (List ℕ)) (was now : Channel) : Type 0 where
+  pub claim : Claim
+  pub proved : IsProved names words claim
+  pub text : Grows was now (text_of (Accepted claim))

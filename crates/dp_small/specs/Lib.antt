@@ -1,9 +1,0 @@
-pub mod Models
-pub mod Lines
-pub mod Fields
-pub mod Reading
-pub mod ReadLines
-pub mod ReadModels
-pub mod Problems
-pub mod Logs
-pub mod Judging
