@@ -1,0 +1,4 @@
+pub mod Gives
+pub mod Seen
+pub mod Standing
+pub mod Stops
