@@ -12,8 +12,9 @@ use Rattle.dp_grammar.proofs.Chains.{chain_lawful, behind_mark_lawful, before_ma
 use Rattle.dp_grammar.proofs.Choices.{either_lawful}
 use Rattle.fz_model.specs.Annotations.{Annotation, Annotated, annotated}
 use Rattle.fz_model.specs.Arrays.{is_one, one_word, one, array_size, size_test, constant_element, variable_element, notes_test, is_bools, constants, elements_end, variables, array_item}
-use Rattle.fz_model.specs.Context.{Context, BasicText, fresh, beyond_small, with_elements}
-use Rattle.fz_model.specs.Items.{IntText, TypeWords, no_test, array_literal, parameter, domain_test, type_elements}
+use Rattle.fz_model.specs.Context.{Context, BasicText, fresh, with_elements}
+use Rattle.fz_model.specs.Limits.{beyond_small, no_test}
+use Rattle.fz_model.specs.Items.{IntText, TypeWords, array_literal, parameter, domain_test, type_elements}
 use Rattle.fz_model.specs.Literals.{name, integer, var_type}
 use Rattle.fz_model.specs.Marks.{is_key, is_stop, keyword, stop, opens, closes}
 use Rattle.fz_model.specs.Words.{Square, Semicolon, Colon, Equals, DoubleDot, Word, Named, Key, Number, Float, Quoted, Stop}

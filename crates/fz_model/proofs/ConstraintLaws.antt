@@ -15,8 +15,9 @@ use Rattle.dp_grammar.proofs.Choices.{either_lawful}
 use Rattle.dp_grammar.proofs.Lists.{listed_lawful}
 use Rattle.fz_model.specs.Annotations.{annotated}
 use Rattle.fz_model.specs.Constraints.{wants_set, wants_array, element_test, argument_test, dotted_of, is_dotted, ArgText, ArgTruth, ArgWhole, ArgName, arg_of, arg_word, arg_basic, ArgWords, behind, set_arg, array_arg, range_arg, text_arg, argument, close_test, arguments, ConstraintWords, behind_constraints, kind_named, constraint_item}
-use Rattle.fz_model.specs.Context.{Context, BasicText, meaning, known, or_else, refuse_if, one_more, max_constraints}
-use Rattle.fz_model.specs.Items.{IntText, no_test, basic}
+use Rattle.fz_model.specs.Context.{Context, BasicText, meaning, known, one_more}
+use Rattle.fz_model.specs.Limits.{or_else, refuse_if, max_constraints, no_test}
+use Rattle.fz_model.specs.Items.{IntText, basic}
 use Rattle.fz_model.specs.Literals.{name, integer}
 use Rattle.fz_model.specs.Marks.{is_key, is_stop, is_open, is_close, stop, opens, closes}
 use Rattle.fz_model.specs.declared.fault.Fault.{Fault}

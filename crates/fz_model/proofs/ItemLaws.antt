@@ -13,8 +13,9 @@ use Rattle.dp_grammar.proofs.Chains.{chain_lawful, behind_mark_lawful, before_ma
 use Rattle.dp_grammar.proofs.Choices.{either_lawful}
 use Rattle.dp_grammar.proofs.Lists.{listed_lawful}
 use Rattle.fz_model.specs.Annotations.{annotated}
-use Rattle.fz_model.specs.Context.{beyond_small, Context, BasicText, Truth, Whole, Name, refuse_if, fresh, fresh_variable, one_more}
-use Rattle.fz_model.specs.Items.{TypeWords, no_test, basic_of, basic_word, basic, truth_of, truth, array_literal, defined, parameter, int_item, bool_item, set_item, domain_test, is_int_type, definition_test, variable_end, variable_item}
+use Rattle.fz_model.specs.Context.{Context, BasicText, Truth, Whole, Name, fresh, fresh_variable, one_more}
+use Rattle.fz_model.specs.Limits.{beyond_small, refuse_if, no_test}
+use Rattle.fz_model.specs.Items.{TypeWords, basic_of, basic_word, basic, truth_of, truth, array_literal, defined, parameter, int_item, bool_item, set_item, domain_test, is_int_type, definition_test, variable_end, variable_item}
 use Rattle.fz_model.specs.Literals.{name, integer, set_literal, var_type}
 use Rattle.fz_model.specs.Marks.{Production, is_stop, is_open, is_close, keyword, stop, opens}
 use Rattle.fz_model.specs.declared.fault.Fault.{Fault}

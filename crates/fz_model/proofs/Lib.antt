@@ -5,3 +5,4 @@ pub mod ItemLaws
 pub mod LiteralLaws
 pub mod MarkLaws
 pub mod ModelLaws
+pub mod LimitLaws

@@ -11,7 +11,8 @@ use Rattle.fz_model.specs.Annotations.{Annotated, balanced, annotated}
 use Rattle.fz_model.specs.Arrays.{array_item}
 use Rattle.fz_model.specs.Constraints.{constraint_item}
 use Rattle.fz_model.specs.Context.{Context, known, goal_test, meant_by}
-use Rattle.fz_model.specs.Items.{IntText, SetWords, no_test, int_item, bool_item, set_item, variable_item}
+use Rattle.fz_model.specs.Items.{IntText, SetWords, int_item, bool_item, set_item, variable_item}
+use Rattle.fz_model.specs.Limits.{no_test}
 use Rattle.fz_model.specs.Literals.{name}
 use Rattle.fz_model.specs.Marks.{Production, is_key, is_stop, is_open, keyword, stop, opens}
 use Rattle.fz_model.specs.ModelText.{predicate_item, ArrayWords, VariableWords, ItemWords, item, begins_item, context_of, GoalWords, goal, solve_item, Rest, rest_of, model}

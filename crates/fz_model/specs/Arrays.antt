@@ -12,8 +12,10 @@ use Rattle.dp_grammar.specs.Leaf.{leaf, tested_mark}
 use Rattle.dp_grammar.specs.Listed.{listed}
 use Rattle.dp_grammar.specs.Whole.{whole}
 use Rattle.fz_model.specs.Annotations.{Balanced, Annotation, Annotated, annotated}
-use Rattle.fz_model.specs.Context.{Context, BasicText, Meant, meaning, known, or_else, refuse_if, one_more, fresh, int_test, bool_test, const_test, bool_const_test, beyond_small, with_elements}
-use Rattle.fz_model.specs.Items.{IntText, SetWords, TypeWords, no_test, array_literal, parameter, domain_test, type_elements}
+use Rattle.fz_model.specs.Context.{Context, BasicText, meaning, known, one_more, fresh, int_test, bool_test, const_test, bool_const_test, with_elements}
+use Rattle.fz_model.specs.Limits.{or_else, refuse_if, beyond_small, no_test}
+use Rattle.fz_model.specs.declared.meant.Meant.{Meant}
+use Rattle.fz_model.specs.Items.{IntText, SetWords, TypeWords, array_literal, parameter, domain_test, type_elements}
 use Rattle.fz_model.specs.Literals.{name, integer, range, var_type}
 use Rattle.fz_model.specs.Marks.{Production, is_key, is_stop, is_close, keyword, stop, opens, closes}
 use Rattle.fz_model.specs.declared.fault.Fault.{Fault}

@@ -1,8 +1,7 @@
 -- Constraints, with the tests of their names and arguments.
-use Rattle.std.specs.Prelude.{ℕ, ◌+◌, ◌==◌, Bool, true, false, not, ◌||◌, ◌&&◌, nat_lt, nat_le, ◌⊎◌, List, [], ◌∷◌, length, map, sum, Option, Some, None, unwrap_or, is_none, ℤ, pos, nat_abs, slice_get}
+use Rattle.std.specs.Prelude.{ℕ, ◌+◌, ◌==◌, Bool, true, false, not, ◌&&◌, nat_lt, nat_le, ◌⊎◌, List, [], ◌∷◌, length, map, sum, Option, Some, None, unwrap_or, is_none, ℤ, slice_get}
 use Rattle.std.proofs.Common.{inl, inr}
 use Rattle.std.specs.List.{list_any, list_all, filter_map}
-use Rattle.std.specs.Int.Signed.{lt_z}
 use Rattle.fz_token.specs.declared.Keyword.TheVariants as key
 use Rattle.dp_grammar.specs.Brackets.{Plain, Opens, Closes}
 use Rattle.dp_grammar.specs.Chain.{chain, behind_mark}
@@ -10,8 +9,11 @@ use Rattle.dp_grammar.specs.Choice.{either}
 use Rattle.dp_grammar.specs.Leaf.{leaf, tested_mark}
 use Rattle.dp_grammar.specs.Listed.{listed}
 use Rattle.fz_model.specs.Annotations.{Annotated, annotated}
-use Rattle.fz_model.specs.Context.{Context, BasicText, Truth, Whole, Name, Meant, IntConst, SetConst, IntVar, IntArray, BoolArray, meaning, known, or_else, refuse_if, one_more, int_test, bool_test, const_test, bool_const_test, beyond_small, small, max_constraints}
-use Rattle.fz_model.specs.Items.{IntText, no_test, basic}
+use Rattle.fz_model.specs.Context.{Context, BasicText, Truth, Whole, Name, meaning, known, one_more, int_test, bool_test, const_test, bool_const_test}
+use Rattle.fz_model.specs.Limits.{or_else, refuse_if, beyond_small, max_constraints, no_test, amount_limit, each_test}
+use Rattle.fz_model.specs.declared.meant.Meant.{Meant}
+use Rattle.fz_model.specs.declared.meant.Meant.TheVariants.{IntConst, SetConst, IntVar, IntArray, BoolArray}
+use Rattle.fz_model.specs.Items.{IntText, basic}
 use Rattle.fz_model.specs.Literals.{name, integer}
 use Rattle.fz_model.specs.Marks.{Production, is_key, is_stop, is_open, is_close, stop, opens, closes}
 use Rattle.fz_model.specs.declared.fault.Fault.{Fault}
@@ -25,21 +27,11 @@ use Rattle.fz_model.specs.declared.kinds.ConstraintKind.TheVariants as of
 
 -- ---- what an argument means
 
--- a duration, a usage or a capacity
-abbrev pub amount_limit : ℤ → Option Fault
-amount_limit value = refuse_if (lt_z value (pos 0) || nat_lt small (nat_abs value)) Limit
-
 -- no variable is supported there
 abbrev pub amount_test : Meant → Option Fault
 amount_test (IntConst value) = amount_limit value
 amount_test IntVar = Some Unsupported
 amount_test _ = Some Kind
-
--- the first refusal of a constant among the elements
-abbrev pub each_test : (ℤ → Option Fault) → List (Option ℤ) → Option Fault
-each_test test [] = None
-each_test test (None ∷ elements) = each_test test elements
-each_test test (Some value ∷ elements) = or_else (test value) (each_test test elements)
 
 -- an array of integers: a variable is refused so, and else the constants are tested
 abbrev pub constants_test : Fault → (ℤ → Option Fault) → Meant → Option Fault

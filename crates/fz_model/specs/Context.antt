@@ -1,55 +1,18 @@
 -- What the items before a word declare, and the tests of names and literals that look at it.
-use Rattle.std.specs.Prelude.{ℕ, ◌+◌, Bool, true, false, nat_lt, nat_le, List, find, bytes_eq, Option, Some, None, ℤ, nat_abs}
+use Rattle.std.specs.Prelude.{ℕ, ◌+◌, Bool, true, nat_le, List, bytes_eq, Option, Some, None, ℤ}
+use Rattle.std.specs.Map.{lookup}
 use Rattle.std.specs.Option.{option_map_or}
+use Rattle.fz_model.specs.Limits.{max_elements, max_variables, refuse_if, or_else}
 use Rattle.fz_model.specs.declared.fault.Fault.{Fault}
+use Rattle.fz_model.specs.declared.meant.Meant.{Meant}
+use Rattle.fz_model.specs.declared.meant.Meant.TheVariants.{IntConst, BoolConst, SetConst, IntVar, BoolVar, IntArray, BoolArray}
 use Rattle.fz_model.specs.declared.fault.Fault.TheVariants.{Unsupported, Unknown, Declared, Kind, Limit}
 
--- what a name stands for; an array by whether it is a parameter, and by its elements, None for a variable
-pub data Meant : Type 0 where
-  IntConst : ℤ → Meant
-  BoolConst : Bool → Meant
-  SetConst : Meant
-  IntVar : Meant
-  BoolVar : Meant
-  IntArray : Bool → List (Option ℤ) → Meant
-  BoolArray : Bool → List (Option Bool) → Meant
-
-pub record Entry : Type 0 where
-  pub name : List ℕ
-  pub meant : Meant
-
--- the names so far, and how many elements and variables there are
+-- the names so far and what each stands for, and how many elements and variables there are
 pub record Context : Type 0 where
-  pub entries : List Entry
+  pub entries : List (List ℕ × Meant)
   pub elements : ℕ
   pub variables : ℕ
-
--- ---- limits
-
--- bounds, coefficients and what defines a variable
-abbrev pub small : ℕ
-small = 1000000000
-
-abbrev pub max_elements : ℕ
-max_elements = 2000000
-
-abbrev pub max_variables : ℕ
-max_variables = 200000
-
-abbrev pub max_constraints : ℕ
-max_constraints = 200000
-
-abbrev pub refuse_if : Bool → Fault → Option Fault
-refuse_if true fault = Some fault
-refuse_if false fault = None
-
--- the first refusal
-abbrev pub or_else : Option Fault → Option Fault → Option Fault
-or_else None other = other
-or_else (Some fault) other = Some fault
-
-abbrev pub beyond_small : ℤ → Option Fault
-beyond_small value = refuse_if (nat_lt small (nat_abs value)) Limit
 
 -- one more element, behind `count` of the same list
 abbrev pub one_more : Context → ℕ → Option Fault
@@ -61,8 +24,8 @@ with_elements context count = record context { elements = context.elements + cou
 
 -- ---- names
 
-abbrev pub meant_by : List Entry → List ℕ → Option Meant
-meant_by entries bytes = option_map_or (λ entry. Some entry.meant) (find (λ entry. bytes_eq entry.name bytes) entries) None
+abbrev pub meant_by : List (List ℕ × Meant) → List ℕ → Option Meant
+meant_by entries bytes = lookup (bytes_eq bytes) entries
 
 -- a name that is declared
 abbrev pub fresh : Context → List ℕ → Option Fault

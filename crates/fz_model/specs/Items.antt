@@ -8,7 +8,8 @@ use Rattle.dp_grammar.specs.Choice.{either}
 use Rattle.dp_grammar.specs.Leaf.{leaf, tested_mark}
 use Rattle.dp_grammar.specs.Listed.{listed}
 use Rattle.fz_model.specs.Annotations.{Annotated, annotated}
-use Rattle.fz_model.specs.Context.{Context, BasicText, Truth, Whole, Name, meaning, known, or_else, refuse_if, one_more, fresh, fresh_variable, beyond_small, int_test, bool_test}
+use Rattle.fz_model.specs.Context.{Context, BasicText, Truth, Whole, Name, meaning, known, one_more, fresh, fresh_variable, int_test, bool_test}
+use Rattle.fz_model.specs.Limits.{or_else, refuse_if, beyond_small, no_test}
 use Rattle.fz_model.specs.Literals.{name, integer, set_literal, var_type}
 use Rattle.fz_model.specs.Marks.{Production, is_stop, is_close, keyword, stop, opens}
 use Rattle.fz_model.specs.declared.fault.Fault.{Fault}
@@ -36,9 +37,6 @@ abbrev pub type_elements : TypeWords → ℕ
 type_elements (inl bool) = 0
 type_elements (inr (inl int)) = 0
 type_elements (inr (inr set)) = set_elements set
-
-abbrev pub no_test : {X : Type 0} → X → Option Fault
-no_test x = None
 
 -- ---- literals and names
 

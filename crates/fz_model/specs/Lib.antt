@@ -9,3 +9,4 @@ pub mod ModelText
 pub mod Table
 pub mod Words
 pub mod Models
+pub mod Limits

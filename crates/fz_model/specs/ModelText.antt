@@ -11,8 +11,11 @@ use Rattle.dp_grammar.specs.Whole.{whole}
 use Rattle.fz_model.specs.Annotations.{Balanced, balanced, Annotated, annotated}
 use Rattle.fz_model.specs.Arrays.{array_item}
 use Rattle.fz_model.specs.Constraints.{ConstraintWords, constraint_item}
-use Rattle.fz_model.specs.Context.{Context, BasicText, Meant, IntConst, BoolConst, SetConst, IntVar, BoolVar, IntArray, BoolArray, meaning, known, goal_test, meant_by, with_elements}
-use Rattle.fz_model.specs.Items.{IntText, SetWords, TypeWords, no_test, int_item, bool_item, set_item, variable_item, is_bool_type, type_elements, set_elements}
+use Rattle.fz_model.specs.Context.{Context, BasicText, meaning, known, goal_test, meant_by, with_elements}
+use Rattle.fz_model.specs.declared.meant.Meant.{Meant}
+use Rattle.fz_model.specs.declared.meant.Meant.TheVariants.{IntConst, BoolConst, SetConst, IntVar, BoolVar, IntArray, BoolArray}
+use Rattle.fz_model.specs.Items.{IntText, SetWords, TypeWords, int_item, bool_item, set_item, variable_item, is_bool_type, type_elements, set_elements}
+use Rattle.fz_model.specs.Limits.{no_test}
 use Rattle.fz_model.specs.Literals.{name}
 use Rattle.fz_model.specs.Marks.{Production, is_key, keyword, stop, opens}
 use Rattle.fz_model.specs.declared.fault.Fault.{Fault}
@@ -55,7 +58,7 @@ closing (inl p) = p.1.1
 closing (inr c) = c
 
 abbrev pub declares : Context → List ℕ → Meant → Context
-declares context bytes meant = record context { entries = context.entries ++ record { name = bytes; meant = meant } ∷ [] }
+declares context bytes meant = record context { entries = context.entries ++ (bytes, meant) ∷ [] }
 
 abbrev pub int_constant : Option Meant → Option ℤ
 int_constant (Some (IntConst value)) = Some value

@@ -1,6 +1,6 @@
 -- Models as plain data, and the model that the words of a text stand for.
-use Rattle.std.specs.Prelude.{◌≡◌, ℕ, suc, Bool, true, false, if◌then◌else◌, is_none, unwrap_or, ◌⊎◌, List, [], ◌∷◌, ◌++◌, length, map, filter, find, slice_get, bytes_eq, codes, Option, Some, None, Result, Ok, Err, ℤ}
-use Rattle.std.specs.List.{list_any}
+use Rattle.std.specs.Prelude.{◌≡◌, ℕ, Bool, false, is_none, unwrap_or, ◌⊎◌, List, [], ◌∷◌, ◌++◌, length, map, filter, find, slice_get, bytes_eq, codes, Option, Some, None, Result, Ok, Err, ℤ}
+use Rattle.std.specs.List.{list_any, position}
 use Rattle.std.specs.Option.{option_map_or}
 use Rattle.std.proofs.Common.{inl, inr}
 use Rattle.dp_grammar.specs.Brackets.{spell_inside}
@@ -8,7 +8,7 @@ use Rattle.dp_grammar.specs.Grammar.{Cause}
 use Rattle.dp_grammar.specs.Whole.{whole}
 use Rattle.fz_model.specs.Annotations.{Balanced, Annotation, Annotated}
 use Rattle.fz_model.specs.Arrays.{is_bools, output_ranges}
-use Rattle.fz_model.specs.Constraints.{ArgText, ArgWords, ConstraintWords, arg_basic}
+use Rattle.fz_model.specs.Constraints.{ArgWords, ConstraintWords, arg_basic}
 use Rattle.fz_model.specs.Context.{BasicText, Truth, Whole, Name}
 use Rattle.fz_model.specs.Items.{IntText, SetWords, TypeWords}
 use Rattle.fz_model.specs.declared.fault.Fault.{Fault}
@@ -44,10 +44,9 @@ name_of_item (item.Consts name bools elements) = name
 name_of_item (item.Var name kind output value var) = name
 name_of_item (item.Vars name kind output elements) = name
 
--- how many items stand before the one of this name
+-- the place of the item of this name
 abbrev pub place_of : List Item → List ℕ → ℕ
-place_of [] name = 0
-place_of (i ∷ items) name = if bytes_eq (name_of_item i) name then 0 else suc (place_of items name)
+place_of items name = unwrap_or (position (bytes_eq name) (map name_of_item items)) 0
 
 -- ---- literals and names where a value is wanted
 
