@@ -12,10 +12,10 @@ pub record Standing : Type 0 where
   pub text : List ℕ
   pub left : List Word
 
--- what stands behind the first word
-abbrev pub behind : List Word → List Word
+-- what stands behind the first
+abbrev pub behind : {T : Type 0} → List T → List T
 behind [] = []
-behind (word ∷ rest) = rest
+behind (t ∷ rest) = rest
 
 -- the tokens and the refusal that are left: the present answer, the one ahead, and those of the text from a place on
 abbrev pub left_of : Result (Option Token) TokenRefusal → Result (Option Token) TokenRefusal → Reading → Stream

@@ -1,6 +1,7 @@
 //! Reads FlatZinc models of the integer profile.
 #![tactic(auto)]
 
+mod literals;
 mod marks;
 mod refusal;
 mod source;

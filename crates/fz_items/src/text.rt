@@ -14,3 +14,18 @@ pub enum BasicWord<'a> {
     Whole(Number),
     Name(&'a [u8]),
 }
+
+/// A set.
+#[derive(Debug, Drop)]
+pub enum SetWords {
+    List(Vec<Number>),
+    Range(Number, Number),
+}
+
+/// The type of a variable.
+#[derive(Debug, Drop)]
+pub enum TypeWords {
+    Bool,
+    Int,
+    Set(SetWords),
+}
