@@ -4,3 +4,4 @@ pub mod Seen
 pub mod Standing
 pub mod Stops
 pub mod Wants
+pub mod Notes

@@ -1,0 +1,67 @@
+-- What annotations say of how an item is printed.
+use Rattle.std.specs.Prelude.{◌≡◌, ℕ, zero, suc, ◌||◌, ◌==◌, Bool, true, false, if◌then◌else◌, List, [], ◌∷◌, map, reverse, Option, Some, None, Result, Ok, Err, find, bytes_eq, codes, length}
+use Rattle.std.specs.Option.{option_map_or}
+use Rattle.dp_grammar.specs.Brackets as word
+use Rattle.dp_grammar.specs.Brackets.{spell_inside, read_inside}
+use Rattle.dp_grammar.specs.Chain.{followed, mapped, behind_mark}
+use Rattle.dp_grammar.specs.Choice.{begins}
+use Rattle.dp_grammar.specs.Grammar as grammar
+use Rattle.dp_grammar.specs.Grammar.{Reading, Takes, Stops}
+use Rattle.dp_grammar.specs.Whole.{whole}
+use Rattle.fz_token.specs.declared.Mark.TheVariants as mark
+use Rattle.fz_token.specs.declared.TokenKind.{TokenKind}
+use Rattle.fz_token.specs.declared.TokenKind.TheVariants as kind
+use Rattle.fz_model.specs.Annotations.{Balanced, balanced, Annotation}
+use Rattle.fz_model.specs.Arrays.{output_ranges}
+use Rattle.fz_model.specs.Items.{IntText}
+use Rattle.fz_model.specs.Literals.{name}
+use Rattle.fz_model.specs.Marks.{is_stop, is_open, opens}
+use Rattle.fz_model.specs.Models.{is_noted}
+use Rattle.fz_model.specs.declared.fault.Fault.{Fault}
+use Rattle.fz_model.specs.Words as words
+use Rattle.fz_model.specs.Words.{Bracket, DoubleColon, Word, bracket_code, bracketing}
+use Rattle.fz_items.specs.Literals.{range_of}
+use Rattle.fz_items.specs.Standing.{behind}
+use Rattle.fz_items.specs.declared.brackets.Class.{Class}
+use Rattle.fz_items.specs.declared.brackets.Class.TheVariants.{Plain, Opens, Closes}
+use Rattle.fz_items.specs.declared.brackets.Shape.{Shape}
+use Rattle.fz_items.specs.declared.brackets.Shape.TheVariants.{Round, Square, Curly}
+
+-- ---- brackets
+
+abbrev pub bracket_of : Shape → Bracket
+bracket_of Round = words.Round
+bracket_of Square = words.Square
+bracket_of Curly = words.Curly
+
+-- the brackets that are open, the innermost first
+abbrev pub brackets_of : List Shape → List Bracket
+brackets_of shapes = map bracket_of (reverse shapes)
+
+-- with the innermost of all, if one is open
+abbrev pub opened : Option Shape → List Shape → List Bracket
+opened None below = []
+opened (Some top) below = bracket_of top ∷ brackets_of below
+
+abbrev pub class_of : TokenKind → Class
+class_of (kind.Mark mark.OpenRound) = Opens Round
+class_of (kind.Mark mark.CloseRound) = Closes Round
+class_of (kind.Mark mark.OpenSquare) = Opens Square
+class_of (kind.Mark mark.CloseSquare) = Closes Square
+class_of (kind.Mark mark.OpenCurly) = Opens Curly
+class_of (kind.Mark mark.CloseCurly) = Closes Curly
+class_of _ = Plain
+
+-- a reading of which nothing is kept
+abbrev pub nothing_of : {X : Type 0} → Reading Word Fault X → Reading Word Fault (Unit {0})
+nothing_of reading = mapped (λ _. tt) reading
+
+-- up to the bracket that closes the last of these, of which nothing is kept
+unfoldable pub closing_all : List Bracket → List Word → Reading Word Fault (Unit {0})
+closing_all opened left = nothing_of (read_inside bracketing opened left)
+
+-- what is read behind a word of this class
+abbrev pub stepped : Class → Shape → List Bracket → List Word → List Word → Reading Word Fault (Unit {0})
+stepped Plain top opened left rest = closing_all (bracket_of top ∷ opened) rest
+stepped (Opens shape) top opened left rest = closing_all (bracket_of shape ∷ bracket_of top ∷ opened) rest
+stepped (Closes shape) top opened left rest = if bracket_code (bracket_of top) == bracket_code (bracket_of shape) then closing_all opened rest else Stops grammar.Syntax left
