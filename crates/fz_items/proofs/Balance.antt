@@ -15,7 +15,7 @@ use Rattle.fz_items.specs.declared.brackets.Class.TheVariants.{Plain, Opens, Clo
 use Rattle.fz_items.specs.declared.brackets.Shape.{Shape}
 use Rattle.fz_items.specs.declared.brackets.Shape.TheVariants as shape
 
-forgotten : {X Y : Type 0} (make : X → Y) (r : Reading Word Fault X) → nothing_of (mapped make r) ≡ nothing_of r
+pub forgotten : {X Y : Type 0} (make : X → Y) (r : Reading Word Fault X) → nothing_of (mapped make r) ≡ nothing_of r
 forgotten make (Takes x rest) = refl
 forgotten make (Stops cause rest) = refl
 

@@ -43,3 +43,9 @@ pub refused_on : {Y : Type 0} (result : Result Y Stop) (stop : Stop) (P Q : Caus
 refused_on result stop P Q is alike h =
     let p = err_from_is_err_and result is in
     rw (p.1, p.2) (refused_alike stop P Q alike h)
+
+-- and where a cause is
+pub refused_by : {Y : Type 0} (result : Result Y Stop) (cause : Cause) (Q : Cause → Type 0) → IsErrAnd result (λ s. s ≡ refused cause) → Q cause → IfErr result (λ s. IfRefused s Q)
+refused_by result cause Q is h =
+    let p = err_from_is_err_and result is in
+    rw (p.1, p.2) h

@@ -7,6 +7,7 @@ use Rattle.dp_grammar.specs.Chain.{followed, mapped, behind_mark}
 use Rattle.dp_grammar.specs.Choice.{begins}
 use Rattle.dp_grammar.specs.Grammar as grammar
 use Rattle.dp_grammar.specs.Grammar.{Reading, Takes, Stops}
+use Rattle.dp_grammar.specs.Listed.{Listing}
 use Rattle.dp_grammar.specs.Whole.{whole}
 use Rattle.fz_token.specs.declared.Mark.TheVariants as mark
 use Rattle.fz_token.specs.declared.TokenKind.{TokenKind}
@@ -14,8 +15,9 @@ use Rattle.fz_token.specs.declared.TokenKind.TheVariants as kind
 use Rattle.fz_model.specs.Annotations.{Balanced, balanced, Annotation}
 use Rattle.fz_model.specs.Arrays.{output_ranges}
 use Rattle.fz_model.specs.Items.{IntText}
-use Rattle.fz_model.specs.Literals.{name}
-use Rattle.fz_model.specs.Marks.{is_stop, is_open, opens}
+use Rattle.fz_model.specs.Limits.{no_test}
+use Rattle.fz_model.specs.Literals.{name, range}
+use Rattle.fz_model.specs.Marks.{is_stop, is_open, is_close, opens, closes}
 use Rattle.fz_model.specs.Models.{is_noted}
 use Rattle.fz_model.specs.declared.fault.Fault.{Fault}
 use Rattle.fz_model.specs.Words as words
@@ -65,3 +67,27 @@ abbrev pub stepped : Class → Shape → List Bracket → List Word → List Wor
 stepped Plain top opened left rest = closing_all (bracket_of top ∷ opened) rest
 stepped (Opens shape) top opened left rest = closing_all (bracket_of shape ∷ bracket_of top ∷ opened) rest
 stepped (Closes shape) top opened left rest = if bracket_code (bracket_of top) == bracket_code (bracket_of shape) then closing_all opened rest else Stops grammar.Syntax left
+
+-- ---- the ranges of `output_array`
+
+abbrev pub range_listing : Listing Word Fault (IntText × IntText)
+range_listing = record {
+  is_separator = is_stop words.Comma;
+  separator = word.Plain (words.Stop words.Comma);
+  is_close = is_close words.Square;
+  item = λ kept. range no_test;
+  close = λ kept. closes words.Square;
+}
+
+abbrev pub ranges_in : Result (List (IntText × IntText)) (grammar.Cause Fault × List Word) → Option (List (IntText × IntText))
+ranges_in (Ok ranges) = Some ranges
+ranges_in (Err refusal) = None
+
+-- the ranges that the arguments of an annotation spell
+abbrev pub args_ranges : Option Balanced → Option (List (IntText × IntText))
+args_ranges None = None
+args_ranges (Some args) = ranges_in (whole output_ranges (spell_inside bracketing (words.Round ∷ []) args))
+
+-- what is read in brackets, seen as ranges
+abbrev pub seen_args : Reading Word Fault Balanced → Reading Word Fault (Option (List (IntText × IntText)))
+seen_args reading = mapped (λ args. args_ranges (Some args)) reading

@@ -1,6 +1,6 @@
 //! All words up to the bracket that closes those that are open.
 
-ghost use Rattle.std.specs.Prelude.{◌≡◌, ◌<◌, List, [], ◌∷◌, length, IfOk, IfErr, OnOk};
+ghost use Rattle.std.specs.Prelude.{◌≡◌, ◌<◌, List, [], ◌∷◌, Some, length, IfOk, IfErr, OnOk};
 ghost use Rattle.dp_grammar.specs.Grammar.{Stops};
 ghost use Rattle.fz_model.specs.Words.{Round as round, Word};
 ghost use Rattle.fz_items.specs.Gives.{Gives, IfRefused, cause_of};
@@ -79,15 +79,22 @@ fn step(source: &mut Source, top: Shape, below: &mut Vec<Shape>) -> Result<Optio
     Ok(next)
 }
 
+/// All words up to the bracket that closes the last of these, where the brackets between match.
+pub fn pass_over(source: &mut Source, top: Shape, mut below: Vec<Shape>) -> Result<(), Stop>
+    ensures reads { Gives (λ u. u) (closing_all (opened (Some top) below.items) source.old.left) result source.new.left }
+    ensures text { source.new.text ≡ source.old.text }
+{
+    let mut top = Some(top);
+    'words: while let Some(shape) = top {
+        top = step(source, shape, &mut below)?;
+    }
+    Ok(())
+}
+
 /// All words up to the `)` that closes the bracket before them, where the brackets between match.
 pub fn balanced(alloc: Global, source: &mut Source) -> Result<(), Stop>
     ensures reads { Gives (λ u. u) (closing_all (round ∷ []) source.old.left) result source.new.left }
     ensures text { source.new.text ≡ source.old.text }
 {
-    let mut below = Vec::new(alloc);
-    let mut top = Some(Shape::Round);
-    'words: while let Some(shape) = top {
-        top = step(source, shape, &mut below)?;
-    }
-    Ok(())
+    pass_over(source, Shape::Round, Vec::new(alloc))
 }

@@ -5,6 +5,7 @@ mod brackets;
 mod elements;
 mod literals;
 mod marks;
+mod ranges;
 mod refusal;
 mod source;
 mod stop;

@@ -2,7 +2,7 @@ use Rattle.std.proofs.Common.{Option, sym, ap, ◌∙◌}
 use Rattle.fz_items.specs.Notes.{closing_all, opened}
 use Rattle.fz_items.specs.declared.brackets.Shape.{Shape}
 use Rattle.fz_items.proofs.Balance.{all_closed}
-use Rattle.fz_items.proofs.brackets.balanced.Goals as goal
+use Rattle.fz_items.proofs.brackets.pass_over.Goals as goal
 
 pub returns-clause-reads : goal.returns-clause-reads
 returns-clause-reads c =
