@@ -1,5 +1,6 @@
 -- What annotations say of how an item is printed.
-use Rattle.std.specs.Prelude.{◌≡◌, ℕ, zero, suc, ◌||◌, ◌==◌, Bool, true, false, if◌then◌else◌, List, [], ◌∷◌, map, reverse, Option, Some, None, Result, Ok, Err, find, bytes_eq, codes, length}
+use Rattle.std.specs.Prelude.{◌≡◌, ℕ, zero, suc, ◌||◌, ◌==◌, Bool, true, false, if◌then◌else◌, List, [], ◌∷◌, map, reverse, Option, Some, None, is_none, option_map, Result, Ok, Err, bytes_eq, codes, length, ◌&&◌, Vec}
+use Rattle.std.specs.Global.{Global}
 use Rattle.std.specs.Option.{option_map_or}
 use Rattle.dp_grammar.specs.Brackets as word
 use Rattle.dp_grammar.specs.Brackets.{spell_inside, read_inside}
@@ -26,6 +27,8 @@ use Rattle.fz_items.specs.Literals.{range_of}
 use Rattle.fz_items.specs.Standing.{behind}
 use Rattle.fz_items.specs.declared.brackets.Class.{Class}
 use Rattle.fz_items.specs.declared.brackets.Class.TheVariants.{Plain, Opens, Closes}
+use Rattle.fz_items.specs.declared.annotations.Notes.{Notes}
+use Rattle.fz_items.specs.declared.text.Number.{Number}
 use Rattle.fz_items.specs.declared.brackets.Shape.{Shape}
 use Rattle.fz_items.specs.declared.brackets.Shape.TheVariants.{Round, Square, Curly}
 
@@ -91,3 +94,58 @@ args_ranges (Some args) = ranges_in (whole output_ranges (spell_inside bracketin
 -- what is read in brackets, seen as ranges
 abbrev pub seen_args : Reading Word Fault Balanced → Reading Word Fault (Option (List (IntText × IntText)))
 seen_args reading = mapped (λ args. args_ranges (Some args)) reading
+
+-- ---- annotations
+
+-- what is known of the annotations so far: whether one is `output_var`, and the ranges of the first `output_array`
+pub record Seen : Type 0 where
+  pub var : Bool
+  pub array : Option (Option (List (IntText × IntText)))
+
+abbrev pub nothing_seen : Seen
+nothing_seen = record { var = false; array = None }
+
+-- an `output_array` behind these is the first
+abbrev pub counts : Seen → List ℕ → Bool
+counts seen bytes = is_none seen.array && bytes_eq bytes (codes "output_array")
+
+abbrev pub array_behind : Option (Option (List (IntText × IntText))) → Bool → Option (List (IntText × IntText)) → Option (Option (List (IntText × IntText)))
+array_behind array first ranges = if first then Some ranges else array
+
+-- with an annotation more, whose arguments spell these ranges
+abbrev pub with_note : Seen → List ℕ → Option (List (IntText × IntText)) → Seen
+with_note seen bytes ranges = record { var = seen.var || bytes_eq bytes (codes "output_var"); array = array_behind seen.array (counts seen bytes) ranges }
+
+abbrev pub add_note : Seen → Annotation → Seen
+add_note seen note = with_note seen note.name (args_ranges note.args)
+
+-- arguments, if a bracket comes
+abbrev pub note_args : Bool → List Word → Reading Word Fault (Option Balanced)
+note_args true left = mapped (λ args. Some args) ((behind_mark (opens words.Round) balanced).read left)
+note_args false left = Takes None left
+
+-- the ranges of arguments that count
+abbrev pub counted : Bool → Option Balanced → Option (List (IntText × IntText))
+counted first args = if first then args_ranges args else None
+
+-- an annotation behind its mark
+abbrev pub note : List Word → Reading Word Fault Annotation
+note left = followed ((name (λ bytes. None)).read left) (λ bytes rest. mapped (λ args. record { name = bytes; args = args }) (note_args (begins (is_open words.Round) rest) rest))
+
+-- at most so many annotations behind these
+unfoldable pub notes_from : ℕ → Seen → List Word → Reading Word Fault Seen
+notes_from zero seen left = Takes seen left
+notes_from (suc most) seen left =
+    if begins (is_stop DoubleColon) left then followed (note (behind left)) (λ a rest. notes_from most (add_note seen a) rest) else Takes seen left
+
+-- all annotations
+abbrev pub notes : List Word → Reading Word Fault Seen
+notes left = notes_from (suc (length left)) nothing_seen left
+
+-- ---- as the code keeps them
+
+abbrev pub ranges_of : Option (Vec (Number × Number) Global) → Option (List (IntText × IntText))
+ranges_of ranges = option_map (λ v. map range_of v.items) ranges
+
+abbrev pub notes_of : Notes → Seen
+notes_of notes = record { var = notes.var; array = option_map ranges_of notes.array }

@@ -1,6 +1,7 @@
 //! Reads FlatZinc models of the integer profile.
 #![tactic(auto)]
 
+mod annotations;
 mod brackets;
 mod elements;
 mod literals;
