@@ -6,6 +6,7 @@ mod brackets;
 mod elements;
 mod literals;
 mod marks;
+mod parameters;
 mod ranges;
 mod refusal;
 mod source;
