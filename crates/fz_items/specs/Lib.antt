@@ -6,3 +6,4 @@ pub mod Stops
 pub mod Wants
 pub mod Notes
 pub mod Parameters
+pub mod Variables

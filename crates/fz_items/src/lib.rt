@@ -12,6 +12,7 @@ mod refusal;
 mod source;
 mod stop;
 mod text;
+mod variables;
 mod want;
 
 pub use refusal::ModelRefusal;

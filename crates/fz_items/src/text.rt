@@ -29,3 +29,20 @@ pub enum TypeWords {
     Int,
     Set(SetWords),
 }
+
+/// An array of constants.
+#[derive(Debug, Drop)]
+pub struct ConstsText<'a> {
+    pub bools: bool,
+    pub name: &'a [u8],
+    pub elements: Vec<BasicWord<'a>>,
+}
+
+/// A variable or an alias.
+#[derive(Debug, Drop)]
+pub struct VarText<'a> {
+    pub name: &'a [u8],
+    pub kind: TypeWords,
+    pub output: bool,
+    pub value: Option<BasicWord<'a>>,
+}
