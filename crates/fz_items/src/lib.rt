@@ -2,6 +2,7 @@
 #![tactic(auto)]
 
 mod annotations;
+mod arrays;
 mod brackets;
 mod elements;
 mod literals;
