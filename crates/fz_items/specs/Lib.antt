@@ -1,0 +1,5 @@
+pub mod Gives
+pub mod Literals
+pub mod Seen
+pub mod Standing
+pub mod Stops
