@@ -1,5 +1,6 @@
 -- What a loop that reads a list keeps: the list is read as the items so far and what is read behind them.
-use Rattle.std.proofs.Common.{◌≡◌, ◌<◌, Bool, true, false, inl, inr, List, [], ◌∷◌, ◌++◌, length, Some, None, if◌then◌else◌, map, refl, sym, ap, subst, ◌∙◌, arith}
+use Rattle.std.proofs.Common.{◌≡◌, ◌<◌, ◌||◌, Bool, true, false, inl, inr, List, [], ◌∷◌, ◌++◌, length, Some, None, if◌then◌else◌, map, refl, sym, ap, subst, ◌∙◌, arith}
+use Rattle.std.specs.List.{list_any}
 use Rattle.std.proofs.lemmas.List.{map-append}
 use Rattle.dp_grammar.specs.Grammar.{Cause, Reading, Takes, Stops, Grammar}
 use Rattle.dp_grammar.specs.Leaf.{mark, valued, only}
@@ -115,3 +116,8 @@ pub listed_pushed : {T F X Y : Type 0} (l : Listing T F X) → IsListing l → (
     → pushed ≡ ys ++ y ∷ [] → begins l.is_separator text ≡ true → (l.item (map view ys)).read (behind text) ≡ Takes (view y) rest → IsListed l total (map view ys) text → IsListed l total (map view pushed) rest
 listed_pushed {T} {F} {X} l is view total ys pushed text y rest p b e h =
     subst (λ (xs : List X). IsListed l total xs rest) (sym (map-append view ys (y ∷ [])) ∙ ap (map view) (sym p)) (listed_more l is total (map view ys) text (view y) rest b e h)
+
+-- a test of the items of the code
+pub any_mapped : {X Y : Type 0} (p : Y → Bool) (f : X → Y) (xs : List X) → list_any (λ x. p (f x)) xs ≡ list_any p (map f xs)
+any_mapped p f [] = refl
+any_mapped p f (x ∷ xs) = ap (λ b. p (f x) || b) (any_mapped p f xs)

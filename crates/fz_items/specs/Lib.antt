@@ -3,3 +3,4 @@ pub mod Literals
 pub mod Seen
 pub mod Standing
 pub mod Stops
+pub mod Wants

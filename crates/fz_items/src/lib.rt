@@ -1,11 +1,13 @@
 //! Reads FlatZinc models of the integer profile.
 #![tactic(auto)]
 
+mod elements;
 mod literals;
 mod marks;
 mod refusal;
 mod source;
 mod stop;
 mod text;
+mod want;
 
 pub use refusal::ModelRefusal;
