@@ -1,3 +1,4 @@
+pub mod Arguments
 pub mod Gives
 pub mod Literals
 pub mod Seen

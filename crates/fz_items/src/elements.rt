@@ -50,7 +50,7 @@ fn element<'a>(
 }
 
 /// The elements behind their bracket, and the bracket that closes them.
-fn elements_inside<'a>(
+pub fn elements_inside<'a>(
     alloc: Global,
     source: &mut Source<'a>,
     names: &Names,

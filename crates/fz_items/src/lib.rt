@@ -1,6 +1,7 @@
 //! Reads FlatZinc models of the integer profile.
 #![tactic(auto)]
 
+mod argument;
 mod elements;
 mod literals;
 mod marks;

@@ -84,7 +84,7 @@ fn listed_number(
 }
 
 /// The numbers of a list behind its bracket, and the bracket that closes it.
-fn numbers_inside(
+pub fn numbers_inside(
     alloc: Global,
     source: &mut Source,
     names: &Names,
