@@ -1,5 +1,5 @@
 -- What a loop that reads a list keeps: the list is read as the items so far and what is read behind them.
-use Rattle.std.proofs.Common.{◌≡◌, ◌<◌, ◌||◌, Bool, true, false, inl, inr, List, [], ◌∷◌, ◌++◌, length, Some, None, if◌then◌else◌, map, refl, sym, ap, subst, ◌∙◌, arith}
+use Rattle.std.proofs.Common.{◌≡◌, ℕ, ◌+◌, ◌<◌, ◌≤◌, ◌||◌, Bool, true, false, inl, inr, List, [], ◌∷◌, ◌++◌, length, Some, None, if◌then◌else◌, map, refl, sym, ap, subst, ◌∙◌, arith, length-append}
 use Rattle.std.specs.List.{list_any}
 use Rattle.std.proofs.lemmas.List.{map-append}
 use Rattle.dp_grammar.specs.Grammar.{Cause, Reading, Takes, Stops, Grammar}
@@ -121,3 +121,7 @@ listed_pushed {T} {F} {X} l is view total ys pushed text y rest p b e h =
 pub any_mapped : {X Y : Type 0} (p : Y → Bool) (f : X → Y) (xs : List X) → list_any (λ x. p (f x)) xs ≡ list_any p (map f xs)
 any_mapped p f [] = refl
 any_mapped p f (x ∷ xs) = ap (λ b. p (f x) || b) (any_mapped p f xs)
+
+-- there is room for one more
+pub room_kept : {Y : Type 0} (n most : ℕ) (ys pushed : List Y) (y : Y) → pushed ≡ ys ++ y ∷ [] → n + length ys < most → n + length pushed ≤ most
+room_kept n most ys pushed y p h = let e = ap length p ∙ length-append ys (y ∷ []) in omega (arith, e, h)

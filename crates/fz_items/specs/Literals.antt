@@ -51,3 +51,12 @@ abbrev pub type_words : TypeWords → grammar.TypeWords
 type_words type.Bool = inl tt
 type_words type.Int = inr (inl tt)
 type_words (type.Set set) = inr (inr (set_words set))
+
+-- how many numbers are listed
+abbrev pub set_count : SetWords → ℕ
+set_count (set.List numbers) = length numbers.items
+set_count (set.Range low high) = 0
+
+abbrev pub type_count : TypeWords → ℕ
+type_count (type.Set set) = set_count set
+type_count _ = 0

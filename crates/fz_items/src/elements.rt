@@ -57,8 +57,10 @@ pub fn elements_inside<'a>(
     want: Want,
     size: Option<Number>,
 ) -> Result<Vec<BasicWord<'a>>, Stop>
+    requires { names.now.elements ≤ max_elements }
     ensures reads { Gives (λ v. map basic_text v.items) ((listed (element_listing names.now want.entry size)).read source.old.left) result source.new.left }
     ensures text { source.new.text ≡ source.old.text }
+    ensures room { IfOk result (λ v. names.now.elements + length v.items ≤ max_elements) }
 {
     let mut elements = Vec::new(alloc);
     if source.is_mark(Mark::CloseSquare) {
@@ -74,4 +76,21 @@ pub fn elements_inside<'a>(
     }
     source.mark_if(Mark::CloseSquare, refuses_size(size, elements.len()))?;
     Ok(elements)
+}
+
+/// An array, of so many elements where a number is declared.
+pub fn array<'a>(
+    alloc: Global,
+    source: &mut Source<'a>,
+    names: &Names,
+    want: Want,
+    size: Option<Number>,
+) -> Result<Vec<BasicWord<'a>>, Stop>
+    requires { names.now.elements ≤ max_elements }
+    ensures reads { Gives (λ v. map basic_text v.items) ((array_literal (λ kept. element_wanted names.now want.entry (length kept)) (λ kept. size_wanted size (length kept))).read source.old.left) result source.new.left }
+    ensures text { source.new.text ≡ source.old.text }
+    ensures room { IfOk result (λ v. names.now.elements + length v.items ≤ max_elements) }
+{
+    source.mark(Mark::OpenSquare)?;
+    elements_inside(alloc, source, names, want, size)
 }

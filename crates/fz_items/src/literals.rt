@@ -1,12 +1,12 @@
 //! Integers, ranges, sets and the types of variables.
 
-ghost use Rattle.std.specs.Prelude.{◌≡◌, length, map};
+ghost use Rattle.std.specs.Prelude.{◌≡◌, ◌+◌, ◌<◌, ◌≤◌, length, map, IfOk};
 ghost use Rattle.dp_grammar.specs.Listed.{listed};
 ghost use Rattle.fz_model.specs.Items.{domain_test};
-ghost use Rattle.fz_model.specs.Limits.{beyond_small};
+ghost use Rattle.fz_model.specs.Limits.{beyond_small, max_elements};
 ghost use Rattle.fz_model.specs.Literals as grammar;
 ghost use Rattle.fz_items.specs.Gives.{Gives, given};
-ghost use Rattle.fz_items.specs.Literals.{bound_test, list_test, number_listing, range_of, set_words, type_words};
+ghost use Rattle.fz_items.specs.Literals.{bound_test, list_test, number_listing, range_of, set_count, set_words, type_count, type_words};
 ghost use Rattle.fz_items.specs.Seen.{number_of};
 
 use crate::source::Source;
@@ -71,6 +71,7 @@ fn listed_number(
 ) -> Result<Number, Cause>
     ensures reads { (grammar.integer (list_test names.now bound kept)).read source.old.left ≡ given number_of result source.new.left }
     ensures text { source.new.text ≡ source.old.text }
+    ensures room { IfOk result (λ _. names.now.elements + kept < max_elements) }
 {
     let number = source.integer_here()?;
     if let Some(fault) = bound.refuses(number.value) {
@@ -90,8 +91,10 @@ pub fn numbers_inside(
     names: &Names,
     bound: Bound,
 ) -> Result<Vec<Number>, Stop>
+    requires { names.now.elements ≤ max_elements }
     ensures reads { Gives (λ v. map number_of v.items) ((listed (number_listing names.now bound)).read source.old.left) result source.new.left }
     ensures text { source.new.text ≡ source.old.text }
+    ensures room { IfOk result (λ v. names.now.elements + length v.items ≤ max_elements) }
 {
     let mut numbers = Vec::new(alloc);
     if source.is_mark(Mark::CloseCurly) {
@@ -116,8 +119,10 @@ pub fn numbers(
     names: &Names,
     bound: Bound,
 ) -> Result<Vec<Number>, Stop>
+    requires { names.now.elements ≤ max_elements }
     ensures reads { Gives (λ v. map number_of v.items) ((grammar.numbers (λ kept. list_test names.now bound (length kept))).read source.old.left) result source.new.left }
     ensures text { source.new.text ≡ source.old.text }
+    ensures room { IfOk result (λ v. names.now.elements + length v.items ≤ max_elements) }
 {
     source.mark(Mark::OpenCurly)?;
     numbers_inside(alloc, source, names, bound)
@@ -130,8 +135,10 @@ pub fn set_literal(
     names: &Names,
     bound: Bound,
 ) -> Result<SetWords, Stop>
+    requires { names.now.elements ≤ max_elements }
     ensures reads { Gives set_words ((grammar.set_literal (λ kept. list_test names.now bound (length kept)) (bound_test bound)).read source.old.left) result source.new.left }
     ensures text { source.new.text ≡ source.old.text }
+    ensures room { IfOk result (λ set. names.now.elements + set_count set ≤ max_elements) }
 {
     if source.is_mark(Mark::OpenCurly) {
         let numbers = numbers(alloc, source, names, bound)?;
@@ -143,8 +150,10 @@ pub fn set_literal(
 
 /// The type of a variable, whose bounds are small.
 pub fn var_type(alloc: Global, source: &mut Source, names: &Names) -> Result<TypeWords, Stop>
+    requires { names.now.elements ≤ max_elements }
     ensures reads { Gives type_words ((grammar.var_type (domain_test names.now) beyond_small).read source.old.left) result source.new.left }
     ensures text { source.new.text ≡ source.old.text }
+    ensures room { IfOk result (λ kind. names.now.elements + type_count kind ≤ max_elements) }
 {
     if source.is_keyword(Keyword::Bool) {
         source.keyword(Keyword::Bool)?;
