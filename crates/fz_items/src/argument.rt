@@ -1,11 +1,12 @@
 //! An argument of a constraint.
 
-ghost use Rattle.std.specs.Prelude.{◌≡◌, map};
+ghost use Rattle.std.specs.Prelude.{◌≡◌, ◌+◌, ◌≤◌, length, map, IfOk};
 ghost use Rattle.dp_grammar.specs.Choice.{begins};
 ghost use Rattle.fz_model.specs.Constraints as grammar;
 ghost use Rattle.fz_model.specs.Constraints.{arg_basic, argument_test};
 ghost use Rattle.fz_model.specs.Context.{meaning, known};
-ghost use Rattle.fz_items.specs.Arguments.{arg_text, arg_words, dotted, no_array, no_set, range_words, text};
+ghost use Rattle.fz_model.specs.Limits.{max_elements};
+ghost use Rattle.fz_items.specs.Arguments.{arg_count, arg_text, arg_words, dotted, no_array, no_set, range_words, text};
 ghost use Rattle.fz_items.specs.Gives.{Gives, IsHere, given};
 ghost use Rattle.fz_items.specs.Seen.{basic_text, number_of};
 
@@ -124,8 +125,10 @@ fn set_argument(
     names: &Names,
     wanted: Option<ArgKind>,
 ) -> Result<Vec<Number>, Stop>
+    requires { names.now.elements ≤ max_elements }
     ensures reads { Gives (λ v. map number_of v.items) ((grammar.set_arg names.now wanted).read source.old.left) result source.new.left }
     ensures text { source.new.text ≡ source.old.text }
+    ensures room { IfOk result (λ v. names.now.elements + length v.items ≤ max_elements) }
 {
     source.mark_if(Mark::OpenCurly, refuses_set(wanted))?;
     numbers_inside(alloc, source, names, Bound::Any)
@@ -138,8 +141,10 @@ fn array_argument<'a>(
     names: &Names,
     wanted: Option<ArgKind>,
 ) -> Result<Vec<BasicWord<'a>>, Stop>
+    requires { names.now.elements ≤ max_elements }
     ensures reads { Gives (λ v. map basic_text v.items) ((grammar.array_arg names.now wanted).read source.old.left) result source.new.left }
     ensures text { source.new.text ≡ source.old.text }
+    ensures room { IfOk result (λ v. names.now.elements + length v.items ≤ max_elements) }
 {
     source.mark_if(Mark::OpenSquare, refuses_array(wanted))?;
     elements_inside(alloc, source, names, Want::Element(wanted), None)
@@ -193,8 +198,10 @@ pub fn argument<'a>(
     names: &Names,
     wanted: Option<ArgKind>,
 ) -> Result<ArgWords<'a>, Stop>
+    requires { names.now.elements ≤ max_elements }
     ensures reads { Gives arg_words ((grammar.argument names.now wanted).read source.old.left) result source.new.left }
     ensures text { source.new.text ≡ source.old.text }
+    ensures room { IfOk result (λ a. names.now.elements + arg_count a ≤ max_elements) }
 {
     if source.is_mark(Mark::OpenCurly) {
         let numbers = set_argument(alloc, source, names, wanted)?;

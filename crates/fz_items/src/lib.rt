@@ -2,6 +2,7 @@
 #![tactic(auto)]
 
 mod argument;
+mod arguments;
 mod elements;
 mod literals;
 mod marks;
