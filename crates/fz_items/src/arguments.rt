@@ -177,3 +177,20 @@ fn arguments_inside<'a>(
     source.mark_if(Mark::CloseRound, refused)?;
     Ok(args)
 }
+
+/// The arguments in their brackets. Their elements are counted.
+pub fn arguments<'a>(
+    alloc: Global,
+    source: &mut Source<'a>,
+    names: &mut Names,
+    kind: ConstraintKind,
+) -> Result<Vec<ArgWords<'a>>, Stop>
+    requires { names.old.elements ≤ max_elements }
+    ensures reads { Gives (λ v. map arg_words v.items) ((grammar.arguments names.old kind).read source.old.left) result source.new.left }
+    ensures text { source.new.text ≡ source.old.text }
+    ensures counted { IfOk result (λ v. names.new ≡ behind names.old (map arg_words v.items)) }
+    ensures room { IfOk result (λ _. names.new.elements ≤ max_elements) }
+{
+    source.mark(Mark::OpenRound)?;
+    arguments_inside(alloc, source, names, kind)
+}

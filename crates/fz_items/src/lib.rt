@@ -6,6 +6,7 @@ mod arguments;
 mod elements;
 mod literals;
 mod marks;
+mod places;
 mod refusal;
 mod source;
 mod stop;
