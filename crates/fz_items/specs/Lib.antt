@@ -1,4 +1,5 @@
 pub mod Arguments
+pub mod ConstraintItems
 pub mod Gives
 pub mod Literals
 pub mod Places

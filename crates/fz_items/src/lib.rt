@@ -3,6 +3,7 @@
 
 mod argument;
 mod arguments;
+mod constraint;
 mod elements;
 mod literals;
 mod marks;
