@@ -27,6 +27,11 @@ Gives view reading (Ok y) rest = reading ≡ Takes (view y) rest
 Gives view reading (Err (Refused cause)) rest = reading ≡ Stops (cause_of cause) rest
 Gives view reading (Err Memory) rest = Unit {0}
 
+-- this of the cause of a refusal
+abbrev pub IfRefused : Stop → (Cause → Type 0) → Type 0
+IfRefused (Refused cause) P = P cause
+IfRefused Memory P = Unit {0}
+
 -- ---- a first word that a test may yet refuse
 
 -- the first word passes its test, or is refused

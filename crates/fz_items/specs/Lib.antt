@@ -1,9 +1,11 @@
 pub mod Arguments
 pub mod ConstraintItems
 pub mod Gives
+pub mod Goals
 pub mod Literals
 pub mod Places
 pub mod Seen
 pub mod Standing
 pub mod Stops
 pub mod Wants
+pub mod Notes

@@ -1,13 +1,17 @@
 //! Reads FlatZinc models of the integer profile.
 #![tactic(auto)]
 
+mod annotations;
 mod argument;
 mod arguments;
+mod brackets;
 mod constraint;
 mod elements;
+mod goal;
 mod literals;
 mod marks;
 mod places;
+mod ranges;
 mod refusal;
 mod source;
 mod stop;
