@@ -4,6 +4,7 @@ pub mod Gives
 pub mod Goals
 pub mod Literals
 pub mod Places
+pub mod Rests
 pub mod Seen
 pub mod Standing
 pub mod Stops

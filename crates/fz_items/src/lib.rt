@@ -12,6 +12,7 @@ mod literals;
 mod marks;
 mod places;
 mod ranges;
+mod rest;
 mod refusal;
 mod source;
 mod stop;
