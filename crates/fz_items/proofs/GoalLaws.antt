@@ -15,7 +15,7 @@ use Rattle.fz_model.specs.Marks.{Production, is_key, is_stop, is_open, keyword, 
 use Rattle.fz_model.specs.ModelText.{GoalWords, goal, solve_item}
 use Rattle.fz_model.specs.Words.{Round, DoubleColon, Semicolon, Word}
 use Rattle.fz_model.specs.declared.fault.Fault.{Fault}
-use Rattle.fz_model.proofs.AnnotationLaws.{annotated_lawful}
+use Rattle.fz_model.proofs.AnnotationLaws.{IsClose, annotated_lawful}
 use Rattle.fz_model.proofs.ConstraintLaws.{constraint_item_lawful}
 use Rattle.fz_model.proofs.LiteralLaws.{name_lawful}
 use Rattle.fz_model.proofs.MarkLaws.{keyword_lawful, stop_lawful}
@@ -47,14 +47,18 @@ goal_lawful context =
     (λ which. name_lawful (λ bytes. known (meant_by context.entries bytes) goal_test))))
     (stop_lawful Semicolon)
 
+-- annotations may stand before it
+pub goal_closes : (context : Context) → IsClose (λ notes. goal context)
+goal_closes context = record {
+  lawful = λ notes. goal_lawful context;
+  no_more = λ notes c. goal_leads (is_stop DoubleColon) context refl refl refl c;
+  no_args = λ notes c. goal_leads (is_open Round) context refl refl refl c;
+}
+
 solve_lawful : (context : Context) → IsLawful (solve_item context)
 solve_lawful context =
     behind_mark_lawful (keyword key.Solve) (annotated (λ notes. goal context)) (keyword_lawful key.Solve)
-    (annotated_lawful (λ notes. goal context) (record {
-      lawful = λ notes. goal_lawful context;
-      no_more = λ notes c. goal_leads (is_stop DoubleColon) context refl refl refl c;
-      no_args = λ notes c. goal_leads (is_open Round) context refl refl refl c;
-    }))
+    (annotated_lawful (λ notes. goal context) (goal_closes context))
 
 -- constraints up to the goal
 abbrev pub constraints_of : Context → Repeat Word Fault ConstraintWords (Annotated GoalWords)

@@ -34,7 +34,7 @@ unmapped : {T F X : Type 0} (r : Reading T F X) → mapped (λ p. p.1) (mapped (
 unmapped (Takes x rest) = refl
 unmapped (Stops cause rest) = refl
 
-separated : {T F X : Type 0} (is : T → Bool) (t : T) (g : Grammar T F X) (text : List T) (r : Reading T F X) → begins is text ≡ true → g.read (behind text) ≡ r → (behind_mark (mark is t) g).read text ≡ r
+pub separated : {T F X : Type 0} (is : T → Bool) (t : T) (g : Grammar T F X) (text : List T) (r : Reading T F X) → begins is text ≡ true → g.read (behind text) ≡ r → (behind_mark (mark is t) g).read text ≡ r
 separated is t g [] r b e = absurd cc
 separated {T} {F} {X} is t g (u ∷ rest) r b e =
     ap (λ (b : Bool). mapped (λ p. p.1) (followed (valued (only {T = T} {F = F} is t None) (if b then Some tt else None) u rest) (λ x rest. mapped (λ y. let p : Unit {0} × X = (x, y) in p) (g.read rest)))) b

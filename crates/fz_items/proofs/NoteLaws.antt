@@ -85,7 +85,7 @@ unrolled : (most : ℕ) (seen : Seen) (left : List Word) → begins (is_stop Dou
 unfolding notes_from
 unrolled most seen left b = ap (λ (b : Bool). if b then after_mark most seen (note (behind left)) else Takes seen left) b
 
-behind_shorter : {T : Type 0} (test : T → Bool) (text : List T) → begins test text ≡ true → length (behind text) < length text
+pub behind_shorter : {T : Type 0} (test : T → Bool) (text : List T) → begins test text ≡ true → length (behind text) < length text
 behind_shorter test [] b = absurd cc
 behind_shorter test (t ∷ rest) b = omega arith
 

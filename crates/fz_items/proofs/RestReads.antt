@@ -126,8 +126,12 @@ solve_reads : (context : Context) (kept : List ConstraintWords) (names : Context
     → names ≡ behind_constraints context kept → (solve_item names).read left ≡ r → (solve_item context).read left ≡ r
 solve_reads context kept names left r n e = ap (λ (c : Context). (solve_item c).read left) (sym n) ∙ e
 
-paired : {X Y : Type 0} {a b : X} {c d : Y} → a ≡ b → c ≡ d → (a, c) ≡ (b, d)
-paired {X} {Y} {a} {b} {c} {d} e f = ap (λ (x : X). let p : X × Y = (x, c) in p) e ∙ ap (λ (y : Y). let p : X × Y = (b, y) in p) f
+abbrev closing_at : List Word → List Constraint → ModelGoal → Reading Word Fault (List Constraint × ModelGoal)
+closing_at rest constraints g = Takes (constraints, g) rest
+
+closed_as : (left other : List Constraint) (g h : ModelGoal) (rest : List Word) → left ≡ other → g ≡ h → closing_at rest left g ≡ closing_at rest other h
+closed_as left other g h rest e f =
+    ap (λ (xs : List Constraint). closing_at rest xs g) e ∙ ap (closing_at rest other) f
 
 pub kept_closed : (context : Context) (text : List Word) (constraints : List Constraint) (names : Context) (left rest : List Word) (g : ModelGoal)
     → begins (is_key key.Constraint) left ≡ false → mapped (closing_goal (names_in names)) ((solve_item names).read left) ≡ Takes g rest
@@ -139,7 +143,7 @@ kept_closed context text constraints names left rest g b e h =
         close_taken (constraints_of context) (constraints_are context) h.kept left ((rest_of context).read text) from.value rest b
         (solve_reads context h.kept names left (Takes from.value rest) h.counted from.reads) h.so_far in
     ap (mapped (rest_in (names_in context))) total
-    ∙ ap (λ (p : List Constraint × ModelGoal). let r : Reading Word Fault (List Constraint × ModelGoal) = Takes p rest in r) (paired (sym h.placed) goal)
+    ∙ closed_as (map (constraint_in (names_in context)) h.kept) constraints (closing_goal (names_in context) from.value) g rest (sym h.placed) goal
 
 pub kept_unclosed : (context : Context) (text : List Word) (constraints : List Constraint) (names : Context) (left rest : List Word) (cause : Cause Fault)
     → begins (is_key key.Constraint) left ≡ false → mapped (closing_goal (names_in names)) ((solve_item names).read left) ≡ Stops cause rest

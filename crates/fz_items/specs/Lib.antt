@@ -10,3 +10,4 @@ pub mod Standing
 pub mod Stops
 pub mod Wants
 pub mod Notes
+pub mod Parameters

@@ -1,6 +1,7 @@
 -- What annotations say of how an item is printed.
-use Rattle.std.specs.Prelude.{◌≡◌, ℕ, zero, suc, ◌||◌, ◌==◌, Bool, true, false, if◌then◌else◌, List, [], ◌∷◌, map, reverse, Option, Some, None, is_none, option_map, Result, Ok, Err, bytes_eq, codes, length, ◌&&◌, Vec}
+use Rattle.std.specs.Prelude.{◌≡◌, ℕ, zero, suc, ◌||◌, ◌==◌, Bool, true, false, if◌then◌else◌, List, [], ◌∷◌, ◌++◌, map, reverse, Option, Some, None, is_none, option_map, Result, Ok, Err, bytes_eq, codes, length, ◌&&◌, Vec}
 use Rattle.std.specs.Global.{Global}
+use Rattle.std.proofs.Common.{inl, inr}
 use Rattle.std.specs.Option.{option_map_or}
 use Rattle.dp_grammar.specs.Brackets as word
 use Rattle.dp_grammar.specs.Brackets.{spell_inside, read_inside}
@@ -13,7 +14,7 @@ use Rattle.dp_grammar.specs.Whole.{whole}
 use Rattle.fz_token.specs.declared.Mark.TheVariants as mark
 use Rattle.fz_token.specs.declared.TokenKind.{TokenKind}
 use Rattle.fz_token.specs.declared.TokenKind.TheVariants as kind
-use Rattle.fz_model.specs.Annotations.{Balanced, balanced, Annotation}
+use Rattle.fz_model.specs.Annotations.{Balanced, balanced, Annotation, Annotated}
 use Rattle.fz_model.specs.Arrays.{output_ranges}
 use Rattle.fz_model.specs.Items.{IntText}
 use Rattle.fz_model.specs.Limits.{no_test}
@@ -118,6 +119,19 @@ with_note seen bytes ranges = record { var = seen.var || bytes_eq bytes (codes "
 
 abbrev pub add_note : Seen → Annotation → Seen
 add_note seen note = with_note seen note.name (args_ranges note.args)
+
+-- these, behind what is seen
+abbrev pub seen_behind : Seen → List Annotation → Seen
+seen_behind seen [] = seen
+seen_behind seen (a ∷ notes) = seen_behind (add_note seen a) notes
+
+abbrev pub seen_in : List Annotation → Seen
+seen_in notes = seen_behind nothing_seen notes
+
+-- what the code keeps of annotations and of what closes them
+abbrev pub seen_of : {C : Type 0} → Annotated C → Seen × C
+seen_of (inl p) = (seen_in (p.0 ++ p.1.0 ∷ []), p.1.1)
+seen_of (inr c) = (nothing_seen, c)
 
 -- arguments, if a bracket comes
 abbrev pub note_args : Bool → List Word → Reading Word Fault (Option Balanced)

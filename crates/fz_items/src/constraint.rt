@@ -15,6 +15,7 @@ ghost use Rattle.fz_items.specs.ConstraintItems.{constraint_behind, item_end, na
 ghost use Rattle.fz_items.specs.Gives.{Gives, given};
 ghost use Rattle.fz_items.specs.Places.{names_in};
 
+use crate::annotations::annotations;
 use crate::argument::ArgWords;
 use crate::arguments::arguments;
 use crate::places::exprs;
@@ -70,6 +71,7 @@ fn end_item(alloc: Global, source: &mut Source) -> Result<(), Stop>
     ensures reads { Gives (λ u. u) (mapped (λ notes. tt) (item_end.read source.old.left)) result source.new.left }
     ensures text { source.new.text ≡ source.old.text }
 {
+    annotations(alloc, source)?;
     source.mark(Mark::Semicolon)?;
     Ok(())
 }

@@ -10,6 +10,7 @@ mod elements;
 mod goal;
 mod literals;
 mod marks;
+mod parameters;
 mod places;
 mod ranges;
 mod rest;
