@@ -6,7 +6,10 @@ ghost use Rattle.dp_parts.specs.Parts.{ClashesPart, MeetsPart, face_of, label_of
 ghost use Rattle.dp_parts.specs.PartLaws.{part_deciding, part_exact, part_lawful, part_sound};
 
 use dp_domain::{Atom, Found, Memory, Rule, State, Steps, Test, VarId};
-use dp_rule_linear::LinLe;
+use dp_rule_clause::{Nogood, Within};
+use dp_rule_cumulative::Cumulative;
+use dp_rule_element::Element;
+use dp_rule_linear::{LinLe, LinNe};
 use std::marker::Model;
 use std::sync::ledger::Ledger;
 
@@ -14,6 +17,11 @@ use std::sync::ledger::Ledger;
 #[derive(Debug, Drop)]
 pub enum Part {
     LinLe(LinLe),
+    LinNe(LinNe),
+    Nogood(Nogood),
+    Within(Within),
+    Element(Element),
+    Cumulative(Cumulative),
 }
 
 impl Test for Part {
@@ -26,24 +34,44 @@ impl Test for Part {
     fn scope_len(&self) -> usize {
         match self {
             Part::LinLe(part) => part.scope_len(),
+            Part::LinNe(part) => part.scope_len(),
+            Part::Nogood(part) => part.scope_len(),
+            Part::Within(part) => part.scope_len(),
+            Part::Element(part) => part.scope_len(),
+            Part::Cumulative(part) => part.scope_len(),
         }
     }
 
     fn scope_at(&self, place: usize) -> VarId {
         match self {
             Part::LinLe(part) => part.scope_at(place),
+            Part::LinNe(part) => part.scope_at(place),
+            Part::Nogood(part) => part.scope_at(place),
+            Part::Within(part) => part.scope_at(place),
+            Part::Element(part) => part.scope_at(place),
+            Part::Cumulative(part) => part.scope_at(place),
         }
     }
 
     fn is_point(&self, var: VarId, value: i64) -> bool {
         match self {
             Part::LinLe(part) => part.is_point(var, value),
+            Part::LinNe(part) => part.is_point(var, value),
+            Part::Nogood(part) => part.is_point(var, value),
+            Part::Within(part) => part.is_point(var, value),
+            Part::Element(part) => part.is_point(var, value),
+            Part::Cumulative(part) => part.is_point(var, value),
         }
     }
 
     fn clash(&self, state: &State) -> Result<bool, Memory> {
         match self {
             Part::LinLe(part) => part.clash(state),
+            Part::LinNe(part) => part.clash(state),
+            Part::Nogood(part) => part.clash(state),
+            Part::Within(part) => part.clash(state),
+            Part::Element(part) => part.clash(state),
+            Part::Cumulative(part) => part.clash(state),
         }
     }
 
@@ -64,6 +92,11 @@ impl Rule for Part {
     ) -> Result<Option<Found>, Memory> {
         match self {
             Part::LinLe(part) => part.next(state, steps),
+            Part::LinNe(part) => part.next(state, steps),
+            Part::Nogood(part) => part.next(state, steps),
+            Part::Within(part) => part.next(state, steps),
+            Part::Element(part) => part.next(state, steps),
+            Part::Cumulative(part) => part.next(state, steps),
         }
     }
 
@@ -75,6 +108,11 @@ impl Rule for Part {
     ) -> Result<Vec<Atom>, Memory> {
         match self {
             Part::LinLe(part) => part.explain(initial, now, target),
+            Part::LinNe(part) => part.explain(initial, now, target),
+            Part::Nogood(part) => part.explain(initial, now, target),
+            Part::Within(part) => part.explain(initial, now, target),
+            Part::Element(part) => part.explain(initial, now, target),
+            Part::Cumulative(part) => part.explain(initial, now, target),
         }
     }
 }
@@ -85,6 +123,11 @@ pub fn label(part: &Part) -> &'static str
 {
     match part {
         Part::LinLe(_) => "linear",
+        Part::LinNe(_) => "not_equal",
+        Part::Nogood(_) => "clause",
+        Part::Within(_) => "domain",
+        Part::Element(_) => "element",
+        Part::Cumulative(_) => "time_table",
     }
 }
 

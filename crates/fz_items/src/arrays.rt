@@ -1,10 +1,11 @@
 //! Arrays of variables.
 
 ghost use Rattle.std.specs.Prelude.{◌≡◌, ◌+◌, ◌≤◌, None, Some, IfOk, length, map, option_map};
+ghost use Rattle.std.specs.List.{fold};
 ghost use Rattle.fz_model.specs.Arrays.{count_of};
 ghost use Rattle.fz_model.specs.Context.{fresh, with_elements};
 ghost use Rattle.fz_model.specs.Limits.{max_elements};
-ghost use Rattle.fz_items.specs.Arrays.{array_read, array_test, array_text, elements_fit};
+ghost use Rattle.fz_items.specs.Arrays.{array_read, array_test, array_text, elements_fit, times, width_of};
 ghost use Rattle.fz_items.specs.Gives.{Gives};
 ghost use Rattle.fz_items.specs.Literals.{range_of, type_count};
 ghost use Rattle.fz_items.specs.Notes.{ranges_of};
@@ -84,14 +85,31 @@ pub fn vars_text<'a>(
     })
 }
 
+/// How many integers a range has.
+fn width(range: (Number, Number)) -> u128
+    ensures { result ≡ width_of (range_of range) }
+{
+    let width = i128::from(range.1.value) - i128::from(range.0.value) + 1;
+    u128::try_from(width).unwrap_or(0)
+}
+
+/// So many times the integers of a range, or the greatest number.
+fn times(size: u128, range: (Number, Number)) -> u128
+    ensures { result ≡ times size (range_of range) }
+{
+    size.saturating_mul(width(range))
+}
+
+/// The product of the sizes of ranges, or the greatest number.
+fn size(ranges: &[(Number, Number)]) -> u128
+    ensures { result ≡ fold (λ n r. times n (range_of r)) 1 ranges.now }
+{
+    ranges.iter().fold(1, |size, range| times(size, *range))
+}
+
 /// Whether there are ranges whose sizes multiply to the count.
 fn fits(count: usize, ranges: &[(Number, Number)]) -> bool
     ensures { result ≡ elements_fit count (Some (map range_of ranges.now)) }
 {
-    let mut size: u64 = 1;
-    for (low, high) in ranges {
-        let width = high.value.saturating_sub(low.value).saturating_add(1).max(0) as u64;
-        size = size.saturating_mul(width);
-    }
-    !ranges.is_empty() && size == count as u64
+    !ranges.is_empty() && size(ranges) == count as u128
 }

@@ -2,14 +2,20 @@
 #![tactic(auto)]
 
 mod annotations;
+mod argument;
+mod arguments;
 mod arrays;
 mod brackets;
+mod constraint;
 mod elements;
+mod goal;
 mod literals;
 mod marks;
 mod parameters;
+mod places;
 mod ranges;
 mod refusal;
+mod rest;
 mod source;
 mod stop;
 mod text;

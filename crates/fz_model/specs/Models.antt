@@ -3,6 +3,7 @@ use Rattle.std.specs.Prelude.{◌≡◌, ℕ, Bool, false, is_none, unwrap_or, �
 use Rattle.std.specs.List.{list_any, position}
 use Rattle.std.specs.Option.{option_map_or}
 use Rattle.std.proofs.Common.{inl, inr}
+use Rattle.dp_base.specs.Lists.{Each}
 use Rattle.dp_grammar.specs.Brackets.{spell_inside}
 use Rattle.dp_grammar.specs.Grammar.{Cause}
 use Rattle.dp_grammar.specs.Whole.{whole}
@@ -13,7 +14,7 @@ use Rattle.fz_model.specs.Context.{BasicText, Truth, Whole, Name}
 use Rattle.fz_model.specs.Items.{IntText, SetWords, TypeWords}
 use Rattle.fz_model.specs.declared.fault.Fault.{Fault}
 use Rattle.fz_model.specs.ModelText.{ArrayWords, GoalWords, ItemWords, ModelWords, VariableWords, closing, model}
-use Rattle.fz_model.specs.Words.{Round, Word, bracketing}
+use Rattle.fz_model.specs.Words.{IsSpelled, Round, Word, bracketing}
 use Rattle.fz_model.specs.declared.model.Basic.{Basic}
 use Rattle.fz_model.specs.declared.model.Basic.TheVariants as basic
 use Rattle.fz_model.specs.declared.model.Constraint.{Constraint}
@@ -172,8 +173,9 @@ model_of w =
     let items = items_of w.0 in
     record { items = items; constraints = map (constraint_of_words items) w.1.0; goal = goal_of items (closing w.1.1) }
 
--- some text's words spell the model, and pass each test
+-- words that tokens stand for spell the model, and pass each test
 pub record IsModel (m : Plan) : Type 0 where
   pub words : ModelWords
+  pub spelled : Each IsSpelled (model.spell words)
   pub passes : model.fault words ≡ None
   pub means : model_of words ≡ m

@@ -1,5 +1,6 @@
 -- The words of a text: what the grammar sees of its tokens.
-use Rattle.std.specs.Prelude.{ℕ, ◌-◌, ◌==◌, Bool, true, false, List, [], ◌∷◌, take, drop, ℤ}
+use Rattle.std.specs.Prelude.{◌≡◌, ◌^◌, ◌≤◌, nat_abs, ℕ, ◌-◌, ◌==◌, Bool, true, false, List, [], ◌∷◌, take, drop, ℤ}
+use Rattle.dp_base.specs.Names.{is_name}
 use Rattle.fz_token.specs.declared.Keyword.{Keyword}
 use Rattle.fz_token.specs.declared.Mark.{Mark}
 use Rattle.fz_token.specs.declared.Mark.TheVariants as mark
@@ -72,6 +73,12 @@ abbrev pub words : List ℕ → List Token → List Word
 words text [] = []
 words text (token ∷ tokens) =
     kind_word (take (token.end - token.start) (drop token.start text)) (begins_dotted tokens) token.kind ∷ words text tokens
+
+-- a word that a token stands for: a name has the form of one, and an integer is within 10^18 of 0
+abbrev pub IsSpelled : Word → Type 0
+IsSpelled (Plain (Named bytes)) = is_name bytes ≡ true
+IsSpelled (Plain (Number value dotted)) = nat_abs value ≤ 10 ^ 18
+IsSpelled _ = Unit {0}
 
 -- ---- brackets
 

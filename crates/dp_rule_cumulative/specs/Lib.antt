@@ -1,0 +1,5 @@
+pub mod Schedules
+pub mod TimeTable
+pub mod Refusals
+pub mod UsageLaws
+pub mod TimeTableLaws

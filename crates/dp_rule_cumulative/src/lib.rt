@@ -1,0 +1,18 @@
+// Tasks that share a capacity, as a rule.
+#![tactic(auto)]
+
+mod cumulative;
+mod given;
+mod refusal;
+mod task;
+mod usage;
+
+pub use cumulative::Cumulative;
+pub use dp_domain::{Atom, Found, Memory, Rule, State, Steps, Term, Test, VarId};
+pub use refusal::TaskRefusal;
+pub use task::Task;
+
+#[cfg(test)]
+mod tests;
+#[cfg(test)]
+mod turn_tests;
