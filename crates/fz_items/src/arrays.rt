@@ -4,10 +4,11 @@ ghost use Rattle.std.specs.Prelude.{◌≡◌, ◌+◌, ◌≤◌, None, Some, I
 ghost use Rattle.std.specs.List.{fold};
 ghost use Rattle.fz_model.specs.Arrays.{count_of};
 ghost use Rattle.fz_model.specs.Context.{fresh, with_elements};
+ghost use Rattle.fz_model.specs.Items.{type_elements};
 ghost use Rattle.fz_model.specs.Limits.{max_elements};
 ghost use Rattle.fz_items.specs.Arrays.{array_read, array_test, array_text, elements_fit, times, width_of};
 ghost use Rattle.fz_items.specs.Gives.{Gives};
-ghost use Rattle.fz_items.specs.Literals.{range_of, type_count};
+ghost use Rattle.fz_items.specs.Literals.{range_of, type_count, type_words};
 ghost use Rattle.fz_items.specs.Notes.{ranges_of};
 ghost use Rattle.fz_items.specs.Seen.{number_of};
 
@@ -25,8 +26,10 @@ use fz_token::{Keyword, Mark};
 use std::alloc::Global;
 
 /// How many numbers a type lists.
+#[tactic(auto, using(std::proofs::lemmas::Grind::common_steps))]
 fn listed(kind: &TypeWords) -> usize
-    ensures { result ≡ type_count kind.now }
+    ensures count { result ≡ type_count kind.now }
+    ensures elements { result ≡ type_elements (type_words kind.now) }
 {
     match kind {
         TypeWords::Set(SetWords::List(numbers)) => numbers.len(),
@@ -64,7 +67,7 @@ pub fn vars_text<'a>(
     requires { names.old.elements ≤ max_elements }
     ensures reads { Gives array_text (array_read names.old (number_of size) source.old.left) result source.new.left }
     ensures text { source.new.text ≡ source.old.text }
-    ensures names { IfOk result (λ t. names.new ≡ with_elements names.old (type_count t.kind)) }
+    ensures names { IfOk result (λ t. names.new ≡ with_elements names.old (type_elements (type_words t.kind))) }
     ensures fresh { IfOk result (λ t. fresh names.old t.name.now ≡ None) }
     ensures room { IfOk result (λ t. names.new.elements + length t.elements.items ≤ max_elements) }
 {
@@ -89,8 +92,11 @@ pub fn vars_text<'a>(
 fn width(range: (Number, Number)) -> u128
     ensures { result ≡ width_of (range_of range) }
 {
-    let width = i128::from(range.1.value) - i128::from(range.0.value) + 1;
-    u128::try_from(width).unwrap_or(0)
+    let (low, high) = (range.0.value, range.1.value);
+    if high < low {
+        return 0;
+    }
+    u128::from(high.abs_diff(low)) + 1
 }
 
 /// So many times the integers of a range, or the greatest number.
