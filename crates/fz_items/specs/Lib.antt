@@ -13,3 +13,4 @@ pub mod Standing
 pub mod Stops
 pub mod Variables
 pub mod Wants
+pub mod States
