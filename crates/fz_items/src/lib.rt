@@ -12,6 +12,7 @@ mod elements;
 mod goal;
 mod literals;
 mod marks;
+mod numbering;
 mod parameters;
 mod places;
 mod ranges;
