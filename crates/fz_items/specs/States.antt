@@ -104,8 +104,11 @@ abbrev pub consts_effect : State → Bool × (List ℕ × List BasicText) → St
 consts_effect s p =
     with_count (with_item s p.1.0 (array_of s.context p.0 true p.1.1) (item.Consts p.1.0 p.0 (map (basic_in (names_in s.context)) p.1.1))) (length p.1.1)
 
+abbrev pub bounds_of : IntText × IntText → ℤ × ℤ
+bounds_of r = (r.0.0, r.1.0)
+
 abbrev pub shown_ranges : Shown → Option (List (ℤ × ℤ))
-shown_ranges (Some (Some ranges)) = Some (map (λ r. (r.0.0, r.1.0)) ranges)
+shown_ranges (Some (Some ranges)) = Some (map bounds_of ranges)
 shown_ranges _ = None
 
 abbrev pub vars_effect : State → grammar.TypeWords → Shape → State

@@ -10,6 +10,8 @@ mod constraint;
 mod declared;
 mod elements;
 mod goal;
+mod item;
+mod kinds;
 mod literals;
 mod marks;
 mod numbering;
