@@ -5,15 +5,21 @@ use Rattle.std.proofs.lemmas.List.{map-append}
 use Rattle.std.proofs.lemmas.List.Elements.{filter-append}
 use Rattle.fz_model.specs.Context.{Context}
 use Rattle.fz_model.specs.ModelText.{declares}
-use Rattle.fz_model.specs.Models.{count_variables, is_own, name_of_item, named_variable, variable_of_item}
+use Rattle.fz_model.specs.Models.{count_variables, is_own, name_of_item, named_variable, type_of, variable_of_item}
+use Rattle.fz_model.specs.Items.{is_bool_type, type_elements}
+use Rattle.fz_items.specs.Variables.{Variable}
+use Rattle.fz_model.specs.declared.meant.Meant.TheVariants.{BoolVar, IntVar}
 use Rattle.fz_model.specs.declared.meant.Meant.{Meant}
 use Rattle.fz_model.specs.declared.model.Basic.{Basic}
 use Rattle.fz_model.specs.declared.model.Basic.TheVariants as basic
 use Rattle.fz_model.specs.declared.model.Item.{Item}
 use Rattle.fz_model.specs.declared.model.Item.TheVariants as item
 use Rattle.fz_model.specs.declared.model.VarType.{VarType}
+use Rattle.fz_model.specs.Context.{with_elements}
+use Rattle.fz_model.specs.Limits.{max_elements, max_variables}
+use Rattle.fz_names.specs.Counts.{with_variable}
 use Rattle.fz_items.specs.Places.{names_in}
-use Rattle.fz_items.specs.States.{ArePlaced, IsKept, IsNoVariable, IsPlacedIn, IsPlacedValue, own_behind}
+use Rattle.fz_items.specs.States.{State, ArePlaced, IsKept, IsNoVariable, IsPlacedIn, IsPlacedValue, definition_in, number_behind, own_behind, variable_behind, variable_effect}
 
 get_front : {A : Type 0} (xs ys : List A) (k : ℕ) → k < length xs → slice_get (xs ++ ys) k ≡ slice_get xs k
 get_front [] ys k h = absurd (omega arith)
@@ -103,3 +109,33 @@ kept_other context items own bytes meant i kept named other =
     let no = no_variable items i other in
     let same : own + own_in items (i ∷ []) ≡ own = omega (arith, no.1) in
     subst (IsKept (declares context bytes meant) (items ++ i ∷ [])) same (kept_more context items own bytes meant i kept named no.0)
+
+-- with what is counted of a variable
+pub kept_counted : (context : Context) (items : List Item) (own n : ℕ) → IsKept context items own → context.elements + n ≤ max_elements → context.variables < max_variables → IsKept (with_variable (with_elements context n)) items own
+kept_counted context items own n kept room few = record {
+  named = kept.named;
+  elements = room;
+  variables = omega (arith, few);
+  counted = kept.counted;
+  placed = kept.placed;
+}
+
+pub kept_with_variable : (context : Context) (items : List Item) (own : ℕ) (name : List ℕ) (meant : Meant) (n : ℕ) (i : Item) (later : ℕ) (v : Variable) → IsKept context items own
+    → name ≡ v.1.0 → i ≡ variable_behind context items own v → later ≡ own_behind items own (definition_in (names_in context) v.1.1.1) → IsPlacedValue (length items) (definition_in (names_in context) v.1.1.1)
+    → context.elements + n ≤ max_elements → context.variables < max_variables → IsKept (with_variable (with_elements (declares context name meant) n)) (items ++ i ∷ []) later
+kept_with_variable context items own name meant n i later v kept named is counts placed room few =
+    let value = definition_in (names_in context) v.1.1.1 in
+    let one = kept_variable context items own name v.1.0 meant (type_of v.0) v.1.1.0 value (number_behind items own value) kept (sym named) placed in
+    let two = subst (λ (j : Item). IsKept (declares context name meant) (items ++ j ∷ []) (own_behind items own value)) (sym is) one in
+    kept_counted (declares context name meant) (items ++ i ∷ []) later n (subst (IsKept (declares context name meant) (items ++ i ∷ [])) (sym counts) two) room few
+
+pub variable_stands : (context : Context) (items : List Item) (own : ℕ) (name : List ℕ) (meant : Meant) (n : ℕ) (i : Item) (v : Variable) → own ≡ count_variables items
+    → name ≡ v.1.0 → meant ≡ (if is_bool_type v.0 then BoolVar else IntVar) → n ≡ type_elements v.0 → i ≡ variable_behind context items own v
+    → (let s : State = record { context = with_variable (with_elements (declares context name meant) n); items = items ++ i ∷ [] } in s) ≡ variable_effect (record { context = context; items = items }) v
+variable_stands context items own name meant n i v counted named means counts is =
+    let made : List ℕ → Meant → ℕ → Item → State = λ name meant n i. record { context = with_variable (with_elements (declares context name meant) n); items = items ++ i ∷ [] } in
+    let value = definition_in (names_in context) v.1.1.1 in
+    ap (λ (name : List ℕ). made name meant n i) named
+    ∙ ap (λ (meant : Meant). made v.1.0 meant n i) means
+    ∙ ap (λ (n : ℕ). made v.1.0 (if is_bool_type v.0 then BoolVar else IntVar) n i) counts
+    ∙ ap (λ (i : Item). made v.1.0 (if is_bool_type v.0 then BoolVar else IntVar) (type_elements v.0) i) (is ∙ ap (λ (own : ℕ). item.Var v.1.0 (type_of v.0) v.1.1.0 value (number_behind items own value)) counted)

@@ -83,6 +83,12 @@ abbrev pub definition_in : List (List ℕ) → BasicText ⊎ Unit {0} → Option
 definition_in names (inl text) = Some (basic_in names text)
 definition_in names (inr none) = None
 
+-- a variable behind these items, of which so many are variables of their own
+abbrev pub variable_behind : Context → List Item → ℕ → Variable → Item
+variable_behind context items own v =
+    let value = definition_in (names_in context) v.1.1.1 in
+    item.Var v.1.0 (type_of v.0) v.1.1.0 value (number_behind items own value)
+
 abbrev pub variable_of : State → Variable → Item
 variable_of s v =
     let value = definition_in (names_in s.context) v.1.1.1 in

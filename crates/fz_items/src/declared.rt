@@ -1,6 +1,6 @@
 //! What the items so far declare.
 
-ghost use Rattle.std.specs.Prelude.{◌≡◌, ◌+◌, ◌<◌, ◌≤◌, if◌then◌else◌, [], None, IfOk, map};
+ghost use Rattle.std.specs.Prelude.{◌≡◌, ◌+◌, ◌<◌, ◌≤◌, if◌then◌else◌, [], None, IfOk, length, map};
 ghost use Rattle.fz_model.specs.Items.{is_bool_type};
 ghost use Rattle.fz_model.specs.declared.meant.Meant.TheVariants as meant;
 ghost use Rattle.fz_items.specs.Literals.{type_count, type_words};
@@ -9,7 +9,7 @@ ghost use Rattle.fz_model.specs.Context.{fresh};
 ghost use Rattle.fz_model.specs.Limits.{max_elements, max_variables};
 ghost use Rattle.fz_model.specs.ModelText.{nothing};
 ghost use Rattle.fz_model.specs.Models.{name_of_item};
-ghost use Rattle.fz_items.specs.States.{IsNoVariable, definition_in, variable_effect, with_count, with_item};
+ghost use Rattle.fz_items.specs.States.{IsNoVariable, IsPlacedValue, definition_in, own_behind, variable_behind, variable_effect, with_count, with_item};
 ghost use Rattle.fz_items.specs.Places.{names_in};
 
 use crate::arrays::listed;
@@ -108,20 +108,38 @@ impl Declared {
             mut items,
             own,
         } = self;
-        let value = defined(&names, &text.value)?;
-        let (var, own) = numbered(items.as_slice(), own, value)?;
-        names.declare(copied(alloc, text.name)?, variable_meant(&text.kind))?;
+        let (item, own) = variable(alloc, &names, items.as_slice(), own, &text)?;
+        let name = copied(alloc, text.name)?;
+        names.declare(name, variable_meant(&text.kind))?;
         names.count_elements(listed(&text.kind));
         names.count_variable();
-        items.push(Item::Var {
-            name: copied(alloc, text.name)?,
-            kind: kept_type(alloc, &text.kind)?,
-            output: text.output,
-            value,
-            var,
-        })?;
+        items.push(item)?;
         Ok(Declared { names, items, own })
     }
+}
+
+/// A variable or an alias behind these items, of which so many are variables of their own, and how many are then.
+fn variable(
+    alloc: Global,
+    names: &Names,
+    items: &[Item],
+    own: usize,
+    text: &VarText,
+) -> Result<(Item, usize), Memory>
+    ensures item { IfOk result (λ p. p.0 ≡ variable_behind names.now items.now own (variable_text text.now)) }
+    ensures own { IfOk result (λ p. p.1 ≡ own_behind items.now own (definition_in (names_in names.now) (end_of text.now.value))) }
+    ensures placed { IfOk result (λ _. IsPlacedValue (length items.now) (definition_in (names_in names.now) (end_of text.now.value))) }
+{
+    let value = defined(names, &text.value)?;
+    let (var, own) = numbered(items, own, value)?;
+    let item = Item::Var {
+        name: copied(alloc, text.name)?,
+        kind: kept_type(alloc, &text.kind)?,
+        output: text.output,
+        value,
+        var,
+    };
+    Ok((item, own))
 }
 
 /// What the name of a variable of this type stands for.
