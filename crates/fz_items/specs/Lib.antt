@@ -14,3 +14,4 @@ pub mod Stops
 pub mod Variables
 pub mod Wants
 pub mod States
+pub mod ItemReads

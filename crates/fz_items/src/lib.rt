@@ -4,6 +4,7 @@
 mod annotations;
 mod argument;
 mod arguments;
+mod arrayed;
 mod arrays;
 mod brackets;
 mod constraint;
