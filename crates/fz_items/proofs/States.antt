@@ -19,7 +19,7 @@ use Rattle.fz_model.specs.Context.{with_elements}
 use Rattle.fz_model.specs.Limits.{max_elements, max_variables}
 use Rattle.fz_names.specs.Counts.{with_variable}
 use Rattle.fz_items.specs.Places.{names_in}
-use Rattle.fz_items.specs.States.{State, ArePlaced, IsKept, IsNoVariable, IsPlacedIn, IsPlacedValue, definition_in, number_behind, own_behind, variable_behind, variable_effect}
+use Rattle.fz_items.specs.States.{State, ArePlaced, IsKept, IsNoVariable, IsPlacedIn, IsPlacedValue, definition_in, number_behind, own_behind, variable_behind, variable_effect, with_count, with_item}
 
 get_front : {A : Type 0} (xs ys : List A) (k : ℕ) → k < length xs → slice_get (xs ++ ys) k ≡ slice_get xs k
 get_front [] ys k h = absurd (omega arith)
@@ -139,3 +139,11 @@ variable_stands context items own name meant n i v counted named means counts is
     ∙ ap (λ (meant : Meant). made v.1.0 meant n i) means
     ∙ ap (λ (n : ℕ). made v.1.0 (if is_bool_type v.0 then BoolVar else IntVar) n i) counts
     ∙ ap (λ (i : Item). made v.1.0 (if is_bool_type v.0 then BoolVar else IntVar) (type_elements v.0) i) (is ∙ ap (λ (own : ℕ). item.Var v.1.0 (type_of v.0) v.1.1.0 value (number_behind items own value)) counted)
+
+-- an item that is made with the names of the state
+pub stands : (s : State) (context : Context) (name : List ℕ) (i : Context → Item) (meant : Context → Meant) (n m : ℕ) (kept : Item) (means : Meant) → context ≡ s.context → kept ≡ i context → means ≡ meant context → n ≡ m
+    → with_count (with_item s name means kept) n ≡ with_count (with_item s name (meant s.context) (i s.context)) m
+stands s context name i meant n m kept means same is stood counts =
+    ap (λ (means : Meant). with_count (with_item s name means kept) n) (stood ∙ ap meant same)
+    ∙ ap (λ (kept : Item). with_count (with_item s name (meant s.context) kept) n) (is ∙ ap i same)
+    ∙ ap (λ (n : ℕ). with_count (with_item s name (meant s.context) (i s.context)) n) counts

@@ -106,9 +106,11 @@ bool_effect s p = with_item s p.0 (BoolConst p.1) (item.Bool p.0 p.1)
 abbrev pub set_effect : State → List ℕ × SetWords → State
 set_effect s p = with_count (with_item s p.0 SetConst (item.Set p.0 (set_of p.1))) (set_elements p.1)
 
+abbrev pub consts_kept : Context → Bool → List ℕ → List BasicText → Item
+consts_kept context bools bytes elements = item.Consts bytes bools (map (basic_in (names_in context)) elements)
+
 abbrev pub consts_effect : State → Bool × (List ℕ × List BasicText) → State
-consts_effect s p =
-    with_count (with_item s p.1.0 (array_of s.context p.0 true p.1.1) (item.Consts p.1.0 p.0 (map (basic_in (names_in s.context)) p.1.1))) (length p.1.1)
+consts_effect s p = with_count (with_item s p.1.0 (array_of s.context p.0 true p.1.1) (consts_kept s.context p.0 p.1.0 p.1.1)) (length p.1.1)
 
 abbrev pub bounds_of : IntText × IntText → ℤ × ℤ
 bounds_of r = (r.0.0, r.1.0)
@@ -117,6 +119,8 @@ abbrev pub shown_ranges : Shown → Option (List (ℤ × ℤ))
 shown_ranges (Some (Some ranges)) = Some (map bounds_of ranges)
 shown_ranges _ = None
 
+abbrev pub vars_kept : Context → grammar.TypeWords → Shape → Item
+vars_kept context type v = item.Vars v.0 (type_of type) (shown_ranges v.1.0) (map (basic_in (names_in context)) v.1.1)
+
 abbrev pub vars_effect : State → grammar.TypeWords → Shape → State
-vars_effect s type v =
-    with_count (with_item s v.0 (array_of s.context (is_bool_type type) false v.1.1) (item.Vars v.0 (type_of type) (shown_ranges v.1.0) (map (basic_in (names_in s.context)) v.1.1))) (length v.1.1)
+vars_effect s type v = with_count (with_item s v.0 (array_of s.context (is_bool_type type) false v.1.1) (vars_kept s.context type v)) (length v.1.1)
