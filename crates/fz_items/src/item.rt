@@ -1,15 +1,17 @@
 //! One item of a model, and what it declares.
 
-ghost use Rattle.std.specs.Prelude.{◌≡◌};
+ghost use Rattle.std.specs.Prelude.{◌≡◌, map};
 ghost use Rattle.dp_grammar.specs.Chain.{followed, mapped};
 ghost use Rattle.fz_token.specs.declared.Keyword.TheVariants as key;
 ghost use Rattle.fz_model.specs.Items.{truth};
 ghost use Rattle.fz_model.specs.Limits.{no_test};
 ghost use Rattle.fz_model.specs.Literals as grammar;
 ghost use Rattle.fz_model.specs.Marks as marks;
+ghost use Rattle.fz_model.specs.Models.{name_of_item};
+ghost use Rattle.fz_items.specs.Places.{names_in};
 ghost use Rattle.fz_items.specs.Gives.{Gives};
 ghost use Rattle.fz_items.specs.Arrays.{array_behind};
-ghost use Rattle.fz_items.specs.ItemReads.{array_told, predicate_read, vars_told};
+ghost use Rattle.fz_items.specs.ItemReads.{array_told, item_told, predicate_read, vars_told};
 ghost use Rattle.fz_items.specs.Literals.{type_words};
 ghost use Rattle.fz_items.specs.Seen.{number_of};
 ghost use Rattle.fz_items.specs.Parameters.{consts_read, parameter_read, set_read};
@@ -149,4 +151,30 @@ fn predicate_item(alloc: Global, source: &mut Source) -> Result<(), Stop>
     balanced(alloc, source)?;
     source.mark(Mark::Semicolon)?;
     Ok(())
+}
+
+/// An item. What is declared with it.
+pub fn item(alloc: Global, source: &mut Source, declared: Declared) -> Result<Declared, Stop>
+    ensures reads { Gives (λ d. d) (item_told declared source.old.left) result source.new.left }
+    ensures text { source.new.text ≡ source.old.text }
+    ensures named { names_in declared.context ≡ map name_of_item declared.items }
+{
+    let _ = declared.names();
+    if source.is_keyword(Keyword::Predicate) {
+        predicate_item(alloc, source)?;
+        return Ok(declared);
+    }
+    if source.is_keyword(Keyword::Int) {
+        return int_item(alloc, source, declared);
+    }
+    if source.is_keyword(Keyword::Bool) {
+        return bool_item(alloc, source, declared);
+    }
+    if source.is_keyword(Keyword::Set) {
+        return set_item(alloc, source, declared);
+    }
+    if source.is_keyword(Keyword::Array) {
+        return array_item(alloc, source, declared);
+    }
+    variable_item(alloc, source, declared)
 }
