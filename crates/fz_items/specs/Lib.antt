@@ -1,4 +1,5 @@
 pub mod Arguments
+pub mod Arrays
 pub mod ConstraintItems
 pub mod Gives
 pub mod Goals
@@ -11,3 +12,4 @@ pub mod Stops
 pub mod Wants
 pub mod Notes
 pub mod Parameters
+pub mod Variables

@@ -4,6 +4,7 @@
 mod annotations;
 mod argument;
 mod arguments;
+mod arrays;
 mod brackets;
 mod constraint;
 mod elements;
@@ -18,6 +19,7 @@ mod refusal;
 mod source;
 mod stop;
 mod text;
+mod variables;
 mod want;
 
 pub use refusal::ModelRefusal;

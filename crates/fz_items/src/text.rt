@@ -29,3 +29,30 @@ pub enum TypeWords {
     Int,
     Set(SetWords),
 }
+
+/// An array of constants.
+#[derive(Debug, Drop)]
+pub struct ConstsText<'a> {
+    pub bools: bool,
+    pub name: &'a [u8],
+    pub elements: Vec<BasicWord<'a>>,
+}
+
+/// A variable or an alias.
+#[derive(Debug, Drop)]
+pub struct VarText<'a> {
+    pub name: &'a [u8],
+    pub kind: TypeWords,
+    pub output: bool,
+    pub value: Option<BasicWord<'a>>,
+}
+
+/// An array of variables.
+#[derive(Debug, Drop)]
+pub struct VarsText<'a> {
+    pub name: &'a [u8],
+    pub kind: TypeWords,
+    /// The ranges of the first `output_array`, if there is one; None in it where it spells no list of ranges.
+    pub output: Option<Option<Vec<(Number, Number)>>>,
+    pub elements: Vec<BasicWord<'a>>,
+}

@@ -1,0 +1,97 @@
+//! Arrays of variables.
+
+ghost use Rattle.std.specs.Prelude.{◌≡◌, ◌+◌, ◌≤◌, None, Some, IfOk, length, map, option_map};
+ghost use Rattle.fz_model.specs.Arrays.{count_of};
+ghost use Rattle.fz_model.specs.Context.{fresh, with_elements};
+ghost use Rattle.fz_model.specs.Limits.{max_elements};
+ghost use Rattle.fz_items.specs.Arrays.{array_read, array_test, array_text, elements_fit};
+ghost use Rattle.fz_items.specs.Gives.{Gives};
+ghost use Rattle.fz_items.specs.Literals.{range_of, type_count};
+ghost use Rattle.fz_items.specs.Notes.{ranges_of};
+ghost use Rattle.fz_items.specs.Seen.{number_of};
+
+use crate::annotations::annotations;
+use crate::elements::array;
+use crate::literals::var_type;
+use crate::parameters::new_name;
+use crate::source::Source;
+use crate::stop::Stop;
+use crate::text::{Number, SetWords, TypeWords, VarsText};
+use crate::want::Want;
+use fz_model::Fault;
+use fz_names::Names;
+use fz_token::{Keyword, Mark};
+use std::alloc::Global;
+
+/// How many numbers a type lists.
+fn listed(kind: &TypeWords) -> usize
+    ensures { result ≡ type_count kind.now }
+{
+    match kind {
+        TypeWords::Set(SetWords::List(numbers)) => numbers.len(),
+        TypeWords::Set(SetWords::Range(_, _)) => 0,
+        TypeWords::Bool => 0,
+        TypeWords::Int => 0,
+    }
+}
+
+/// Why the ranges of an `output_array` do not fit an array of so many elements.
+fn refuses_notes(size: Number, output: &Option<Option<Vec<(Number, Number)>>>) -> Option<Fault>
+    ensures { result ≡ array_test (count_of size.value) (option_map ranges_of output.now) }
+{
+    match output {
+        None => None,
+        Some(None) => Some(Fault::Kind),
+        Some(Some(ranges)) => {
+            let count = usize::try_from(size.value).unwrap_or(0);
+            if fits(count, ranges.as_slice()) {
+                None
+            } else {
+                Some(Fault::Kind)
+            }
+        }
+    }
+}
+
+/// An array of so many variables. The numbers that its type lists are counted.
+pub fn vars_text<'a>(
+    alloc: Global,
+    source: &mut Source<'a>,
+    names: &mut Names,
+    size: Number,
+) -> Result<VarsText<'a>, Stop>
+    requires { names.old.elements ≤ max_elements }
+    ensures reads { Gives array_text (array_read names.old (number_of size) source.old.left) result source.new.left }
+    ensures text { source.new.text ≡ source.old.text }
+    ensures names { IfOk result (λ t. names.new ≡ with_elements names.old (type_count t.kind)) }
+    ensures fresh { IfOk result (λ t. fresh names.old t.name.now ≡ None) }
+    ensures room { IfOk result (λ t. names.new.elements + length t.elements.items ≤ max_elements) }
+{
+    source.keyword(Keyword::Var)?;
+    let kind = var_type(alloc, source, names)?;
+    names.count_elements(listed(&kind));
+    source.mark(Mark::Colon)?;
+    let name = new_name(source, names)?;
+    let notes = annotations(alloc, source)?;
+    source.mark(Mark::Equals)?;
+    let elements = array(alloc, source, names, Want::Typed(&kind), Some(size))?;
+    source.mark_if(Mark::Semicolon, refuses_notes(size, &notes.array))?;
+    Ok(VarsText {
+        name,
+        kind,
+        output: notes.array,
+        elements,
+    })
+}
+
+/// Whether there are ranges whose sizes multiply to the count.
+fn fits(count: usize, ranges: &[(Number, Number)]) -> bool
+    ensures { result ≡ elements_fit count (Some (map range_of ranges.now)) }
+{
+    let mut size: u64 = 1;
+    for (low, high) in ranges {
+        let width = high.value.saturating_sub(low.value).saturating_add(1).max(0) as u64;
+        size = size.saturating_mul(width);
+    }
+    !ranges.is_empty() && size == count as u64
+}
