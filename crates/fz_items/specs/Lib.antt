@@ -1,3 +1,4 @@
+pub mod Answers
 pub mod Arguments
 pub mod Arrays
 pub mod ConstraintItems
@@ -5,6 +6,7 @@ pub mod Gives
 pub mod Goals
 pub mod Literals
 pub mod Places
+pub mod Refusals
 pub mod Rests
 pub mod Seen
 pub mod Standing

@@ -16,9 +16,11 @@ mod places;
 mod ranges;
 mod rest;
 mod refusal;
+mod refused;
 mod source;
 mod stop;
 mod text;
+mod unsupported;
 mod variables;
 mod want;
 
