@@ -1,5 +1,5 @@
 -- Arrays of variables, as the code reads them.
-use Rattle.std.specs.Prelude.{ℕ, ◌==◌, Bool, false, not, List, [], ◌∷◌, length, map, Option, Some, None, option_map}
+use Rattle.std.specs.Prelude.{ℕ, ◌*◌, min, pos, ◌+ℤ◌, ◌-ℤ◌, ◌==◌, Bool, false, not, List, [], ◌∷◌, length, map, Option, Some, None, option_map}
 use Rattle.fz_token.specs.declared.Keyword.TheVariants as key
 use Rattle.dp_grammar.specs.Brackets.{Plain}
 use Rattle.dp_grammar.specs.Chain.{followed, mapped, behind_mark, before_mark}
@@ -19,6 +19,18 @@ use Rattle.fz_items.specs.Literals.{type_words}
 use Rattle.fz_items.specs.Notes.{Seen, notes, ranges_of}
 use Rattle.fz_items.specs.Seen.{basic_text}
 use Rattle.fz_items.specs.declared.text.VarsText.{VarsText}
+
+-- how many integers a range has
+abbrev pub width_of : IntText × IntText → ℕ
+width_of p = count_of (p.1.0 -ℤ p.0.0 +ℤ pos 1)
+
+-- the greatest number that the code counts to
+abbrev pub most : ℕ
+most = 340282366920938463463374607431768211455
+
+-- so many times the integers of a range, or the greatest number
+abbrev pub times : ℕ → IntText × IntText → ℕ
+times n p = min (n * width_of p) most
 
 -- one or more ranges, whose sizes multiply to the number of elements
 abbrev pub elements_fit : ℕ → Option (List (IntText × IntText)) → Bool

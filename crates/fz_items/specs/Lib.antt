@@ -5,13 +5,13 @@ pub mod ConstraintItems
 pub mod Gives
 pub mod Goals
 pub mod Literals
+pub mod Notes
+pub mod Parameters
 pub mod Places
 pub mod Refusals
 pub mod Rests
 pub mod Seen
 pub mod Standing
 pub mod Stops
-pub mod Wants
-pub mod Notes
-pub mod Parameters
 pub mod Variables
+pub mod Wants

@@ -1,12 +1,14 @@
 //! Arrays of variables.
 
 ghost use Rattle.std.specs.Prelude.{◌≡◌, ◌+◌, ◌≤◌, None, Some, IfOk, length, map, option_map};
+ghost use Rattle.std.specs.List.{fold};
 ghost use Rattle.fz_model.specs.Arrays.{count_of};
 ghost use Rattle.fz_model.specs.Context.{fresh, with_elements};
+ghost use Rattle.fz_model.specs.Items.{type_elements};
 ghost use Rattle.fz_model.specs.Limits.{max_elements};
-ghost use Rattle.fz_items.specs.Arrays.{array_read, array_test, array_text, elements_fit};
+ghost use Rattle.fz_items.specs.Arrays.{array_read, array_test, array_text, elements_fit, times, width_of};
 ghost use Rattle.fz_items.specs.Gives.{Gives};
-ghost use Rattle.fz_items.specs.Literals.{range_of, type_count};
+ghost use Rattle.fz_items.specs.Literals.{range_of, type_count, type_words};
 ghost use Rattle.fz_items.specs.Notes.{ranges_of};
 ghost use Rattle.fz_items.specs.Seen.{number_of};
 
@@ -24,8 +26,10 @@ use fz_token::{Keyword, Mark};
 use std::alloc::Global;
 
 /// How many numbers a type lists.
+#[tactic(auto, using(std::proofs::lemmas::Grind::common_steps))]
 fn listed(kind: &TypeWords) -> usize
-    ensures { result ≡ type_count kind.now }
+    ensures count { result ≡ type_count kind.now }
+    ensures elements { result ≡ type_elements (type_words kind.now) }
 {
     match kind {
         TypeWords::Set(SetWords::List(numbers)) => numbers.len(),
@@ -63,7 +67,7 @@ pub fn vars_text<'a>(
     requires { names.old.elements ≤ max_elements }
     ensures reads { Gives array_text (array_read names.old (number_of size) source.old.left) result source.new.left }
     ensures text { source.new.text ≡ source.old.text }
-    ensures names { IfOk result (λ t. names.new ≡ with_elements names.old (type_count t.kind)) }
+    ensures names { IfOk result (λ t. names.new ≡ with_elements names.old (type_elements (type_words t.kind))) }
     ensures fresh { IfOk result (λ t. fresh names.old t.name.now ≡ None) }
     ensures room { IfOk result (λ t. names.new.elements + length t.elements.items ≤ max_elements) }
 {
@@ -84,14 +88,34 @@ pub fn vars_text<'a>(
     })
 }
 
+/// How many integers a range has.
+fn width(range: (Number, Number)) -> u128
+    ensures { result ≡ width_of (range_of range) }
+{
+    let (low, high) = (range.0.value, range.1.value);
+    if high < low {
+        return 0;
+    }
+    u128::from(high.abs_diff(low)) + 1
+}
+
+/// So many times the integers of a range, or the greatest number.
+fn times(size: u128, range: (Number, Number)) -> u128
+    ensures { result ≡ times size (range_of range) }
+{
+    size.saturating_mul(width(range))
+}
+
+/// The product of the sizes of ranges, or the greatest number.
+fn size(ranges: &[(Number, Number)]) -> u128
+    ensures { result ≡ fold (λ n r. times n (range_of r)) 1 ranges.now }
+{
+    ranges.iter().fold(1, |size, range| times(size, *range))
+}
+
 /// Whether there are ranges whose sizes multiply to the count.
 fn fits(count: usize, ranges: &[(Number, Number)]) -> bool
     ensures { result ≡ elements_fit count (Some (map range_of ranges.now)) }
 {
-    let mut size: u64 = 1;
-    for (low, high) in ranges {
-        let width = high.value.saturating_sub(low.value).saturating_add(1).max(0) as u64;
-        size = size.saturating_mul(width);
-    }
-    !ranges.is_empty() && size == count as u64
+    !ranges.is_empty() && size(ranges) == count as u128
 }
