@@ -1,5 +1,5 @@
 -- What is answered for the bytes of a text: the model that they spell, or the first refusal and its place.
-use Rattle.std.specs.Prelude.{ℕ, ◌-◌, nat_le, if◌then◌else◌, Option, Some, None, Result, Ok, Err, List, [], ◌∷◌, length, drop}
+use Rattle.std.specs.Prelude.{◌≡◌, ℕ, ◌-◌, nat_le, if◌then◌else◌, Option, Some, None, Result, Ok, Err, List, [], ◌∷◌, length, drop}
 use Rattle.std.specs.Option.{option_map_or}
 use Rattle.dp_grammar.specs.Grammar as grammar
 use Rattle.fz_token.specs.Stream.{Stream, stream}
@@ -81,3 +81,13 @@ abbrev pub model_text : List ℕ → Result Plan ModelRefusal
 model_text text =
     let s = stream text in
     within_limit (length text) (answered (length text) s (model_words (words text s.tokens)))
+
+-- a call gives the model of an answer, or its refusal; of want of memory nothing is said
+abbrev pub Gives : Result Plan ModelRefusal → Result Plan ModelRefusal → Type 0
+Gives answer (Ok m) = answer ≡ Ok m
+Gives answer (Err Memory) = Unit {0}
+Gives answer (Err refusal) = answer ≡ Err refusal
+
+-- a call gives the model of the text, or its first refusal
+abbrev pub Answers : List ℕ → Result Plan ModelRefusal → Type 0
+Answers text result = Gives (model_text text) result

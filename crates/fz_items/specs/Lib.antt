@@ -15,3 +15,4 @@ pub mod Standing
 pub mod Stops
 pub mod Variables
 pub mod Wants
+pub mod Wholes
