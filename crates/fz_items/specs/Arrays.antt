@@ -6,17 +6,16 @@ use Rattle.dp_grammar.specs.Chain.{followed, mapped, behind_mark, before_mark}
 use Rattle.dp_grammar.specs.Grammar.{Reading}
 use Rattle.dp_grammar.specs.Leaf.{tested_mark}
 use Rattle.fz_model.specs.Arrays.{count_of, product, size_test, variable_element}
-use Rattle.fz_model.specs.Context.{Context, BasicText, fresh, with_elements}
+use Rattle.fz_model.specs.Context.{Context, BasicText, fresh}
 use Rattle.fz_model.specs.Items as grammar
-use Rattle.fz_model.specs.Items.{IntText, array_literal, domain_test, type_elements}
+use Rattle.fz_model.specs.Items.{IntText, array_literal, domain_test}
 use Rattle.fz_model.specs.Limits.{beyond_small, refuse_if}
 use Rattle.fz_model.specs.Literals.{name, var_type}
 use Rattle.fz_model.specs.Marks.{Production, is_stop, keyword, stop}
 use Rattle.fz_model.specs.declared.fault.Fault.{Fault}
 use Rattle.fz_model.specs.declared.fault.Fault.TheVariants.{Kind}
 use Rattle.fz_model.specs.Words.{Colon, Equals, Semicolon, Stop, Word}
-use Rattle.fz_items.specs.Literals.{type_words}
-use Rattle.fz_items.specs.Notes.{Seen, notes, ranges_of}
+use Rattle.fz_items.specs.Notes.{notes, ranges_of}
 use Rattle.fz_items.specs.Seen.{basic_text}
 use Rattle.fz_items.specs.declared.text.VarsText.{VarsText}
 
@@ -43,27 +42,31 @@ abbrev pub array_test : ℕ → Option (Option (List (IntText × IntText))) → 
 array_test count None = None
 array_test count (Some ranges) = refuse_if (not (elements_fit count ranges)) Kind
 
-abbrev pub seen_test : IntText → Seen → Option Fault
-seen_test size seen = array_test (count_of size.0) seen.array
+-- what was seen of the annotations
+abbrev pub Shown : Type 0
+Shown = Option (Option (List (IntText × IntText)))
 
 -- '=' arraylit ';', where what was seen of the annotations is tested at the end
-abbrev pub elements_shut : Context → IntText → grammar.TypeWords → Seen → Production (List BasicText)
-elements_shut context size type seen =
+abbrev pub elements_shut : Context → IntText → grammar.TypeWords → Shown → Production (List BasicText)
+elements_shut context size type shown =
     behind_mark (stop Equals) (before_mark (array_literal (variable_element context type) (size_test size))
-    (tested_mark (is_stop Semicolon) (Plain (Stop Semicolon)) (seen_test size seen)))
+    (tested_mark (is_stop Semicolon) (Plain (Stop Semicolon)) (array_test (count_of size.0) shown)))
 
--- the type, the name, the ranges of the first `output_array`, and the elements
-abbrev pub Variables : Type 0
-Variables = grammar.TypeWords × (List ℕ × (Option (Option (List (IntText × IntText))) × List BasicText))
+-- the name, the ranges of the first `output_array`, and the elements
+abbrev pub Shape : Type 0
+Shape = List ℕ × (Shown × List BasicText)
 
--- 'var' vtype ':' NAME annotations '=' arraylit ';'
-abbrev pub array_read : Context → IntText → List Word → Reading Word Fault Variables
-array_read context size left =
-    followed ((keyword key.Var).read left) (λ u left. followed ((var_type (domain_test context) beyond_small).read left) (λ type left.
+-- ':' NAME annotations '=' arraylit ';'
+abbrev pub array_behind : Context → IntText → grammar.TypeWords → List Word → Reading Word Fault Shape
+array_behind context size type left =
     followed ((stop Colon).read left) (λ u left. followed ((name (fresh context)).read left) (λ bytes left.
-    followed (notes left) (λ seen left. mapped (λ elements. let v : Variables = (type, (bytes, (seen.array, elements))) in v) ((elements_shut (with_elements context (type_elements type)) size type seen).read left))))))
+    followed (notes left) (λ seen left. mapped (λ elements. let v : Shape = (bytes, (seen.array, elements)) in v) ((elements_shut context size type seen.array).read left))))
+
+-- 'var' vtype
+abbrev pub array_head_of : Context → List Word → Reading Word Fault grammar.TypeWords
+array_head_of context left = followed ((keyword key.Var).read left) (λ u left. (var_type (domain_test context) beyond_small).read left)
 
 -- ---- as the code keeps them
 
-abbrev pub array_text : VarsText → Variables
-array_text t = (type_words t.kind, (t.name.now, (option_map ranges_of t.output, map basic_text t.elements.items)))
+abbrev pub shape_of : VarsText → Shape
+shape_of t = (t.name.now, (option_map ranges_of t.output, map basic_text t.elements.items))

@@ -15,4 +15,5 @@ pub mod Standing
 pub mod Stops
 pub mod Variables
 pub mod Wants
+pub mod States
 pub mod Wholes

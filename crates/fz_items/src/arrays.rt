@@ -3,14 +3,14 @@
 ghost use Rattle.std.specs.Prelude.{◌≡◌, ◌+◌, ◌≤◌, None, Some, IfOk, length, map, option_map};
 ghost use Rattle.std.specs.List.{fold};
 ghost use Rattle.fz_model.specs.Arrays.{count_of};
-ghost use Rattle.fz_model.specs.Context.{fresh, with_elements};
+ghost use Rattle.fz_model.specs.Context.{fresh};
 ghost use Rattle.fz_model.specs.Items.{type_elements};
 ghost use Rattle.fz_model.specs.Limits.{max_elements};
-ghost use Rattle.fz_items.specs.Arrays.{array_read, array_test, array_text, elements_fit, times, width_of};
+ghost use Rattle.fz_items.specs.Arrays.{array_behind, array_head_of, array_test, elements_fit, elements_shut, shape_of, times, width_of};
 ghost use Rattle.fz_items.specs.Gives.{Gives};
 ghost use Rattle.fz_items.specs.Literals.{range_of, type_count, type_words};
 ghost use Rattle.fz_items.specs.Notes.{ranges_of};
-ghost use Rattle.fz_items.specs.Seen.{number_of};
+ghost use Rattle.fz_items.specs.Seen.{basic_text, number_of};
 
 use crate::annotations::annotations;
 use crate::elements::array;
@@ -18,7 +18,7 @@ use crate::literals::var_type;
 use crate::parameters::new_name;
 use crate::source::Source;
 use crate::stop::Stop;
-use crate::text::{Number, SetWords, TypeWords, VarsText};
+use crate::text::{BasicWord, Number, SetWords, TypeWords, VarsText};
 use crate::want::Want;
 use fz_model::Fault;
 use fz_names::Names;
@@ -27,7 +27,7 @@ use std::alloc::Global;
 
 /// How many numbers a type lists.
 #[tactic(auto, using(std::proofs::lemmas::Grind::common_steps))]
-fn listed(kind: &TypeWords) -> usize
+pub fn listed(kind: &TypeWords) -> usize
     ensures count { result ≡ type_count kind.now }
     ensures elements { result ≡ type_elements (type_words kind.now) }
 {
@@ -57,35 +57,61 @@ fn refuses_notes(size: Number, output: &Option<Option<Vec<(Number, Number)>>>) -
     }
 }
 
-/// An array of so many variables. The numbers that its type lists are counted.
-pub fn vars_text<'a>(
+/// The elements of an array of variables, behind what was seen of its annotations.
+fn vars_end<'a>(
     alloc: Global,
     source: &mut Source<'a>,
-    names: &mut Names,
+    names: &Names,
+    kind: &TypeWords,
+    size: Number,
+    output: &Option<Option<Vec<(Number, Number)>>>,
+) -> Result<Vec<BasicWord<'a>>, Stop>
+    requires { names.now.elements ≤ max_elements }
+    ensures reads { Gives (λ v. map basic_text v.items)
+        ((elements_shut names.now (number_of size) (type_words kind.now) (option_map ranges_of output.now)).read source.old.left) result source.new.left }
+    ensures text { source.new.text ≡ source.old.text }
+    ensures room { IfOk result (λ v. names.now.elements + length v.items ≤ max_elements) }
+{
+    source.mark(Mark::Equals)?;
+    let elements = array(alloc, source, names, Want::Typed(kind), Some(size))?;
+    source.mark_if(Mark::Semicolon, refuses_notes(size, output))?;
+    Ok(elements)
+}
+
+/// An array of so many variables, behind its type.
+pub fn vars_behind<'a>(
+    alloc: Global,
+    source: &mut Source<'a>,
+    names: &Names,
+    kind: &TypeWords,
     size: Number,
 ) -> Result<VarsText<'a>, Stop>
-    requires { names.old.elements ≤ max_elements }
-    ensures reads { Gives array_text (array_read names.old (number_of size) source.old.left) result source.new.left }
+    requires { names.now.elements ≤ max_elements }
+    ensures reads { Gives shape_of (array_behind names.now (number_of size) (type_words kind.now) source.old.left) result source.new.left }
     ensures text { source.new.text ≡ source.old.text }
-    ensures names { IfOk result (λ t. names.new ≡ with_elements names.old (type_elements (type_words t.kind))) }
-    ensures fresh { IfOk result (λ t. fresh names.old t.name.now ≡ None) }
-    ensures room { IfOk result (λ t. names.new.elements + length t.elements.items ≤ max_elements) }
+    ensures fresh { IfOk result (λ t. fresh names.now t.name.now ≡ None) }
+    ensures room { IfOk result (λ t. names.now.elements + length t.elements.items ≤ max_elements) }
 {
-    source.keyword(Keyword::Var)?;
-    let kind = var_type(alloc, source, names)?;
-    names.count_elements(listed(&kind));
     source.mark(Mark::Colon)?;
     let name = new_name(source, names)?;
     let notes = annotations(alloc, source)?;
-    source.mark(Mark::Equals)?;
-    let elements = array(alloc, source, names, Want::Typed(&kind), Some(size))?;
-    source.mark_if(Mark::Semicolon, refuses_notes(size, &notes.array))?;
+    let elements = vars_end(alloc, source, names, kind, size, &notes.array)?;
     Ok(VarsText {
         name,
-        kind,
         output: notes.array,
         elements,
     })
+}
+
+/// `var` and the type of an array.
+pub fn vars_head(alloc: Global, source: &mut Source, names: &Names) -> Result<TypeWords, Stop>
+    requires { names.now.elements ≤ max_elements }
+    ensures reads { Gives type_words (array_head_of names.now source.old.left) result source.new.left }
+    ensures text { source.new.text ≡ source.old.text }
+    ensures room { IfOk result (λ kind. names.now.elements + type_count kind ≤ max_elements) }
+{
+    source.keyword(Keyword::Var)?;
+    var_type(alloc, source, names)
 }
 
 /// How many integers a range has.

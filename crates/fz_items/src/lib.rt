@@ -7,6 +7,7 @@ mod arguments;
 mod arrays;
 mod brackets;
 mod constraint;
+mod declared;
 mod elements;
 mod goal;
 mod literals;

@@ -51,7 +51,6 @@ pub struct VarText<'a> {
 #[derive(Debug, Drop)]
 pub struct VarsText<'a> {
     pub name: &'a [u8],
-    pub kind: TypeWords,
     /// The ranges of the first `output_array`, if there is one; None in it where it spells no list of ranges.
     pub output: Option<Option<Vec<(Number, Number)>>>,
     pub elements: Vec<BasicWord<'a>>,
