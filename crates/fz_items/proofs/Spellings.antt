@@ -1,5 +1,5 @@
 -- Words are what tokens stand for.
-use Rattle.std.proofs.Common.{◌≡◌, ◌≢◌, ℕ, ◌+◌, ◌-◌, ◌^◌, ◌≤◌, Bool, true, false, not, ◌||◌, ◌&&◌, ◌==◌, List, [], ◌∷◌, length, take, drop, get_or, nat_lt, inl, inr, Result, Ok, Err, refl, sym, ap, subst, ◌∙◌, arith}
+use Rattle.std.proofs.Common.{◌≡◌, ◌≢◌, ℕ, ◌+◌, ◌-◌, ◌^◌, ◌≤◌, Bool, true, false, not, ◌||◌, ◌&&◌, ◌==◌, List, [], ◌∷◌, map, length, take, drop, get_or, nat_lt, inl, inr, Result, Ok, Err, refl, sym, ap, subst, ◌∙◌, arith}
 use Rattle.std.specs.Prelude.{bytes_eq, nat_abs, slice_index, codes}
 use Rattle.std.specs.List.{AllPass, list_all, list_any}
 use Rattle.std.proofs.lemmas.Bool.{cases_Bool}
@@ -12,9 +12,8 @@ use Rattle.fz_token.specs.Forms.{IsToken, IsWord, KeepsLimit, Says, Spells}
 use Rattle.fz_token.specs.Gap.{gap_end}
 use Rattle.fz_token.specs.Stream.{Stream, led_by, start_after, stream, stream_from, stream_step}
 use Rattle.fz_token.specs.Token.{token_at}
-use Rattle.fz_token.specs.Word.{begins_word, is_word_byte, spelling}
+use Rattle.fz_token.specs.Word.{all_keywords, begins_word, is_word_byte, spelling}
 use Rattle.fz_token.specs.declared.Keyword.{Keyword}
-use Rattle.fz_token.specs.declared.Keyword.TheVariants as word
 use Rattle.fz_token.specs.declared.Mark.{Mark}
 use Rattle.fz_token.specs.declared.Mark.TheVariants as mark
 use Rattle.fz_token.specs.declared.Token.{Token}
@@ -46,16 +45,12 @@ unlike w keyword h = elim (cases_Bool (bytes_eq w keyword)) [
   | inr other ↦ other
 ]
 
-none_of : (w : List ℕ) (k : List ℕ) (ks : List (List ℕ)) → bytes_eq w k ≡ false → list_any (bytes_eq w) ks ≡ false → list_any (bytes_eq w) (k ∷ ks) ≡ false
-none_of w k ks e f = ap (λ (b : Bool). b || list_any (bytes_eq w) ks) e ∙ f
+none_spelled : (w : List ℕ) (ks : List Keyword) → ((keyword : Keyword) → w ≢ spelling keyword) → list_any (bytes_eq w) (map spelling ks) ≡ false
+none_spelled w [] h = refl
+none_spelled w (k ∷ ks) h = ap (λ (b : Bool). b || list_any (bytes_eq w) (map spelling ks)) (unlike w (spelling k) (h k)) ∙ none_spelled w ks h
 
 no_keyword : (w : List ℕ) → ((keyword : Keyword) → w ≢ spelling keyword) → list_any (bytes_eq w) keywords ≡ false
-no_keyword w h =
-    none_of w _ _ (unlike w _ (h word.Array)) (none_of w _ _ (unlike w _ (h word.Bool)) (none_of w _ _ (unlike w _ (h word.Constraint))
-    (none_of w _ _ (unlike w _ (h word.False)) (none_of w _ _ (unlike w _ (h word.Float)) (none_of w _ _ (unlike w _ (h word.Int))
-    (none_of w _ _ (unlike w _ (h word.Maximize)) (none_of w _ _ (unlike w _ (h word.Minimize)) (none_of w _ _ (unlike w _ (h word.Of))
-    (none_of w _ _ (unlike w _ (h word.Predicate)) (none_of w _ _ (unlike w _ (h word.Satisfy)) (none_of w _ _ (unlike w _ (h word.Set))
-    (none_of w _ _ (unlike w _ (h word.Solve)) (none_of w _ _ (unlike w _ (h word.True)) (none_of w _ _ (unlike w _ (h word.Var)) refl))))))))))))))
+no_keyword w h = none_spelled w all_keywords h
 
 name_is : (w : List ℕ) → IsWord w → ((keyword : Keyword) → w ≢ spelling keyword) → is_name w ≡ true
 name_is w is h =

@@ -1,14 +1,13 @@
 -- A model is read as its items, and the rest behind them.
-use Rattle.std.proofs.Common.{◌≡◌, ℕ, false, ◌⊎◌, inl, inr, List, [], ◌∷◌, ◌++◌, map, Option, Some, None, Result, Ok, Err, refl, sym, ap, subst, ◌∙◌}
+use Rattle.std.proofs.Common.{◌≡◌, ℕ, ◌<◌, true, false, length, ◌⊎◌, inl, inr, List, [], ◌∷◌, ◌++◌, map, Option, Some, None, Result, Ok, Err, refl, sym, ap, subst, ◌∙◌}
 use Rattle.std.specs.Option.{option_map_or}
 use Rattle.std.proofs.lemmas.List.{append-nil, map-append}
 use Rattle.dp_base.specs.Lists.{Each}
 use Rattle.dp_grammar.specs.Chain.{mapped}
 use Rattle.dp_grammar.specs.Choice.{begins}
 use Rattle.dp_grammar.specs.Grammar.{Cause, Reading, Takes, Stops, Syntax, IsLawful, Tells}
-use Rattle.dp_grammar.specs.Many.{IsRepeat}
 use Rattle.dp_grammar.specs.Whole.{finished}
-use Rattle.dp_grammar.proofs.Loops.{close_taken, close_refused}
+use Rattle.dp_grammar.proofs.Loops.{with_front, no_front, behind_items, item_taken, item_refused, item_shortens, close_taken, close_refused}
 use Rattle.fz_token.specs.Stream.{Stream, stream}
 use Rattle.fz_token.specs.declared.TokenRefusal.{TokenRefusal}
 use Rattle.fz_model.specs.Constraints.{ArgWords, ConstraintWords, arg_basic}
@@ -30,8 +29,15 @@ use Rattle.fz_items.specs.Goals.{goal_in}
 use Rattle.fz_items.specs.Places.{basic_in, constraint_in, expr_in, names_in}
 use Rattle.fz_items.specs.Refusals.{here}
 use Rattle.fz_items.specs.Rests.{rest_in}
-use Rattle.fz_items.specs.Wholes.{HasItems, model_parts}
+use Rattle.fz_items.specs.Wholes.{HasItems, ItemsRead, model_parts}
+use Rattle.fz_items.specs.Gives.{Gives, cause_of}
+use Rattle.fz_items.specs.declared.stop.Stop.{Stop}
+use Rattle.fz_items.specs.declared.stop.Stop.TheVariants.{Refused, Memory}
+use Rattle.std.specs.Result.{IsErrAnd}
+use Rattle.std.proofs.lemmas.Result.{err_from_is_err_and}
 use Rattle.fz_items.specs.declared.refusal.ModelRefusal.{ModelRefusal}
+use Rattle.fz_items.specs.States.{State, effect}
+use Rattle.fz_items.proofs.GoalLaws.{parts_are}
 use Rattle.fz_items.proofs.RestReads.{taken_from, stops_from}
 use Rattle.fz_items.proofs.Spellings.{words_spelled}
 
@@ -93,9 +99,61 @@ goal_is items (inl satisfy) = refl
 goal_is items (inr (inl minimize, name)) = refl
 goal_is items (inr (inr maximize, name)) = refl
 
+-- ---- the items so far
+
+context_more : (ws : List ItemWords) (context : Context) (w : ItemWords) → after_items context (ws ++ w ∷ []) ≡ after_item (after_items context ws) w
+context_more [] context w = refl
+context_more (v ∷ ws) context w = context_more ws (after_item context v) w
+
+items_more : (ws : List ItemWords) (items : List Item) (w : ItemWords) → items_behind items (ws ++ w ∷ []) ≡ items_behind items ws ++ item_of (items_behind items ws) w
+items_more [] items w = refl
+items_more (v ∷ ws) items w = items_more ws (items ++ item_of items v) w
+
+pub none_read : (text left : List Word) (context : Context) (items : List Item) → text ≡ left → context ≡ nothing → items ≡ [] → HasItems text context items left
+none_read text left context items t c i = record {
+  kept = [];
+  so_far = subst (λ (w : List Word). with_front [] (behind_items model_parts [] w) ≡ model.read text) t (no_front (model.read text));
+  context_is = c;
+  items_are = i;
+}
+
+pub one_read : (text left rest : List Word) (s after : State) → begins begins_item left ≡ true → mapped (effect s) ((item s.context).read left) ≡ Takes after rest
+    → HasItems text s.context s.items left → HasItems text after.context after.items rest
+one_read text left rest s after b e h =
+    let from = taken_from (effect s) ((item s.context).read left) after rest e in
+    let reads : (item (context_of h.kept)).read left ≡ Takes from.value rest = ap (λ (c : Context). (item c).read left) (sym h.context_is) ∙ from.reads in
+    record {
+      kept = h.kept ++ from.value ∷ [];
+      so_far = item_taken model_parts parts_are h.kept left (model.read text) from.value rest b reads h.so_far;
+      context_is = sym (ap (λ (s : State). s.context) from.seen) ∙ ap (λ (c : Context). after_item c from.value) h.context_is ∙ sym (context_more h.kept nothing from.value);
+      items_are = sym (ap (λ (s : State). s.items) from.seen) ∙ ap (λ (is : List Item). is ++ item_of is from.value) h.items_are ∙ sym (items_more h.kept [] from.value);
+    }
+
+pub one_shortens : (text left rest : List Word) (s after : State) → mapped (effect s) ((item s.context).read left) ≡ Takes after rest → HasItems text s.context s.items left → length rest < length left
+one_shortens text left rest s after e h =
+    let from = taken_from (effect s) ((item s.context).read left) after rest e in
+    item_shortens model_parts parts_are h.kept left from.value rest (ap (λ (c : Context). (item c).read left) (sym h.context_is) ∙ from.reads)
+
+pub one_refused : (text left rest : List Word) (s : State) (cause : Cause Fault) → begins begins_item left ≡ true → mapped (effect s) ((item s.context).read left) ≡ Stops cause rest
+    → HasItems text s.context s.items left → model.read text ≡ Stops cause rest
+one_refused text left rest s cause b e h =
+    item_refused model_parts parts_are h.kept left (model.read text) cause rest b
+    (ap (λ (c : Context). (item c).read left) (sym h.context_is) ∙ stops_from (effect s) ((item s.context).read left) cause rest e) h.so_far
+
+stop_read : (text left rest : List Word) (s : State) (stop : Stop) → begins begins_item left ≡ true → HasItems text s.context s.items left
+    → Gives {X = State} {Y = State} (λ d. d) (mapped (effect s) ((item s.context).read left)) (Err stop) rest → ItemsRead text (Err stop) rest
+stop_read text left rest s (Refused cause) b h e = one_refused text left rest s (cause_of cause) b e h
+stop_read text left rest s Memory b h e = tt
+
+pub stopped_read : (text left rest : List Word) (s : State) (result : Result State Stop) (stop : Stop) → IsErrAnd result (λ x. x ≡ stop) → begins begins_item left ≡ true → HasItems text s.context s.items left
+    → Gives {X = State} {Y = State} (λ d. d) (mapped (effect s) ((item s.context).read left)) (Err stop) rest → ItemsRead text result rest
+stopped_read text left rest s result stop is b h e =
+    let p = err_from_is_err_and result is in
+    rw (p.1, p.2) (stop_read text left rest s stop b h e)
+
 -- ---- the items and the rest
 
-abbrev plan_at : List Item → List Constraint × ModelGoal → Plan
+abbrev pub plan_at : List Item → List Constraint × ModelGoal → Plan
 plan_at items p = record { items = items; constraints = p.0; goal = p.1 }
 
 rest_is : (ws : List ItemWords) (w : Rest) → plan_at (items_of ws) (rest_in (names_in (context_of ws)) w) ≡ model_of (ws, w)
@@ -105,23 +163,23 @@ rest_is ws w =
     ∙ ap (λ (cs : List Constraint). let m : Plan = record { items = items; constraints = cs; goal = goal_in (map name_of_item items) (closing w.1) } in m) (constraints_are items w.0)
     ∙ ap (λ (g : ModelGoal). let m : Plan = record { items = items; constraints = map (constraint_of_words items) w.0; goal = g } in m) (goal_is items (closing w.1))
 
-pub whole_taken : IsRepeat model_parts → (text : List Word) (context : Context) (items : List Item) (left rest : List Word) (p : List Constraint × ModelGoal)
+pub whole_taken : (text : List Word) (context : Context) (items : List Item) (left rest : List Word) (p : List Constraint × ModelGoal)
     → HasItems text context items left → begins begins_item left ≡ false → mapped (rest_in (names_in context)) ((rest_of context).read left) ≡ Takes p rest
     → mapped model_of (model.read text) ≡ Takes (plan_at items p) rest
-whole_taken is text context items left rest p h b e =
+whole_taken text context items left rest p h b e =
     let from = taken_from (rest_in (names_in context)) ((rest_of context).read left) p rest e in
     let close : (rest_of (context_of h.kept)).read left ≡ Takes from.value rest = ap (λ (c : Context). (rest_of c).read left) (sym h.context_is) ∙ from.reads in
-    let total : model.read text ≡ Takes (h.kept, from.value) rest = close_taken model_parts is h.kept left (model.read text) from.value rest b close h.so_far in
+    let total : model.read text ≡ Takes (h.kept, from.value) rest = close_taken model_parts parts_are h.kept left (model.read text) from.value rest b close h.so_far in
     let seen : rest_in (names_in (context_of h.kept)) from.value ≡ p = ap (λ (c : Context). rest_in (names_in c) from.value) (sym h.context_is) ∙ from.seen in
     let plan : model_of (h.kept, from.value) ≡ plan_at items p =
         sym (rest_is h.kept from.value) ∙ ap (plan_at (items_of h.kept)) seen ∙ ap (λ (is : List Item). plan_at is p) (sym h.items_are) in
     ap (mapped model_of) total ∙ ap (λ (m : Plan). let r : Reading Word Fault Plan = Takes m rest in r) plan
 
-pub whole_refused : IsRepeat model_parts → (text : List Word) (context : Context) (items : List Item) (left rest : List Word) (cause : Cause Fault)
+pub whole_refused : (text : List Word) (context : Context) (items : List Item) (left rest : List Word) (cause : Cause Fault)
     → HasItems text context items left → begins begins_item left ≡ false → mapped (rest_in (names_in context)) ((rest_of context).read left) ≡ Stops cause rest
     → mapped model_of (model.read text) ≡ Stops cause rest
-whole_refused is text context items left rest cause h b e =
-    ap (mapped model_of) (close_refused model_parts is h.kept left (model.read text) cause rest b
+whole_refused text context items left rest cause h b e =
+    ap (mapped model_of) (close_refused model_parts parts_are h.kept left (model.read text) cause rest b
     (ap (λ (c : Context). (rest_of c).read left) (sym h.context_is) ∙ stops_from (rest_in (names_in context)) ((rest_of context).read left) cause rest e) h.so_far)
 
 -- ---- what is answered

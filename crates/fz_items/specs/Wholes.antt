@@ -10,6 +10,11 @@ use Rattle.fz_model.specs.Models.{Plan, items_of}
 use Rattle.fz_model.specs.Words.{Word}
 use Rattle.fz_model.specs.declared.fault.Fault.{Fault}
 use Rattle.fz_model.specs.declared.model.Item.{Item}
+use Rattle.fz_items.specs.Gives.{cause_of}
+use Rattle.fz_items.specs.States.{State}
+use Rattle.fz_items.specs.declared.stop.Stop.{Stop}
+use Rattle.fz_items.specs.declared.stop.Stop.TheVariants.{Refused, Memory}
+use Rattle.fz_items.specs.declared.whole.Parts.{Parts}
 
 -- items up to the constraints and the goal
 abbrev pub model_parts : Repeat Word Fault ItemWords Rest

@@ -86,4 +86,18 @@ impl Declared {
         self.names.count_elements(count);
         self
     }
+
+    /// The names, and the items.
+    pub fn into_parts(self) -> (Names, Vec<Item>)
+        ensures names { result.0 ≡ self.context }
+        ensures items { result.1.items ≡ self.items }
+        ensures elements { self.context.elements ≤ max_elements }
+    {
+        let Declared {
+            names,
+            items,
+            own: _,
+        } = self;
+        (names, items)
+    }
 }

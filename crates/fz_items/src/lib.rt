@@ -10,6 +10,8 @@ mod constraint;
 mod declared;
 mod elements;
 mod goal;
+mod item;
+mod items;
 mod literals;
 mod marks;
 mod parameters;
@@ -24,5 +26,7 @@ mod text;
 mod unsupported;
 mod variables;
 mod want;
+mod whole;
 
 pub use refusal::ModelRefusal;
+pub use whole::read_model;

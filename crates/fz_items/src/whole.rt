@@ -32,7 +32,7 @@ pub struct Parts {
 }
 
 /// The parts of the model that comes.
-fn parts(alloc: Global, source: &mut Source) -> Result<Parts, Stop>
+fn read_parts(alloc: Global, source: &mut Source) -> Result<Parts, Stop>
     ensures reads { Gives plan_of (mapped model_of (model.read source.old.left)) result source.new.left }
     ensures text { source.new.text ≡ source.old.text }
 {
@@ -50,7 +50,7 @@ fn whole(alloc: Global, text: &[u8]) -> Result<Model, ModelRefusal>
     ensures { answers.Gives (answered (length text.now) (stream text.now) (model_words (words text.now (stream text.now).tokens))) result }
 {
     let mut source = Source::new(text);
-    match parts(alloc, &mut source) {
+    match read_parts(alloc, &mut source) {
         Ok(parts) => {
             if source.word().is_some() {
                 return Err(source.refusal(Cause::Syntax));
