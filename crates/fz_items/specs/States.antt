@@ -1,17 +1,18 @@
 -- What the items so far declare, as the code keeps it.
-use Rattle.std.specs.Prelude.{◌≡◌, ℕ, ◌+◌, ◌≤◌, ◌<◌, Bool, true, false, List, [], ◌∷◌, ◌++◌, length, map, Option, Some, None, ℤ, if◌then◌else◌}
+use Rattle.std.specs.Prelude.{◌≡◌, ℕ, ◌+◌, ◌≤◌, ◌<◌, Bool, true, false, List, [], ◌∷◌, ◌++◌, length, map, Option, Some, None, ℤ, if◌then◌else◌, ◌⊎◌, is_none, unwrap_or}
 use Rattle.std.proofs.Common.{inl, inr}
 use Rattle.fz_model.specs.Context.{Context, BasicText, with_elements}
 use Rattle.fz_model.specs.Items.{IntText, SetWords, is_bool_type, set_elements, type_elements}
 use Rattle.fz_model.specs.Limits.{max_elements, max_variables}
 use Rattle.fz_model.specs.ModelText.{ItemWords, after_item, array_of, declares}
-use Rattle.fz_model.specs.Models.{count_variables, definition_of, is_own, item_of, name_of_item, number_of, set_of, type_of}
+use Rattle.fz_model.specs.Models.{count_variables, item_of, name_of_item, named_variable, number_of, set_of, type_of}
 use Rattle.fz_model.specs.declared.meant.Meant.{Meant}
 use Rattle.fz_model.specs.declared.meant.Meant.TheVariants.{IntConst, BoolConst, SetConst, IntVar, BoolVar}
 use Rattle.fz_model.specs.declared.model.Basic.{Basic}
 use Rattle.fz_model.specs.declared.model.Basic.TheVariants as basic
 use Rattle.fz_model.specs.declared.model.Item.{Item}
 use Rattle.fz_model.specs.declared.model.Item.TheVariants as item
+use Rattle.fz_names.specs.Counts.{with_variable}
 use Rattle.fz_items.specs.Arrays.{Shape, Shown}
 use Rattle.fz_items.specs.Places.{basic_in, names_in}
 use Rattle.fz_items.specs.Variables.{Variable}
@@ -24,9 +25,14 @@ pub record State : Type 0 where
 
 -- ---- what always holds
 
+-- a definition names one of so many items, if it names one
+abbrev pub IsPlacedValue : ℕ → Option Basic → Type 0
+IsPlacedValue count (Some (basic.Item place)) = place < count
+IsPlacedValue count _ = Unit {0}
+
 -- what defines this item names one of so many items
 abbrev pub IsPlacedIn : ℕ → Item → Type 0
-IsPlacedIn count (item.Var name kind output (Some (basic.Item place)) var) = place < count
+IsPlacedIn count (item.Var name kind output value var) = IsPlacedValue count value
 IsPlacedIn count _ = Unit {0}
 
 abbrev pub ArePlaced : ℕ → List Item → Type 0
@@ -45,6 +51,16 @@ pub record IsKept (context : Context) (items : List Item) (own : ℕ) : Type 0 w
   pub counted : own ≡ count_variables items
   pub placed : ArePlaced (length items) items
 
+-- ---- numbers of variables
+
+-- the number of a variable behind these items, of which so many are variables of their own
+abbrev pub number_behind : List Item → ℕ → Option Basic → ℕ
+number_behind items own value = unwrap_or (named_variable items value) own
+
+-- how many are variables of their own, with one more of this definition
+abbrev pub own_behind : List Item → ℕ → Option Basic → ℕ
+own_behind items own value = if is_none (named_variable items value) then own + 1 else own
+
 -- ---- items
 
 -- an item more, of this name
@@ -62,6 +78,28 @@ effect s i = record { context = after_item s.context i; items = s.items ++ item_
 abbrev pub int_effect : State → List ℕ × IntText → State
 int_effect s p = with_item s p.0 (IntConst p.1.0) (item.Int p.0 p.1.0)
 
+-- the definition, with the place of what it names
+abbrev pub definition_in : List (List ℕ) → BasicText ⊎ Unit {0} → Option Basic
+definition_in names (inl text) = Some (basic_in names text)
+definition_in names (inr none) = None
+
+-- a variable behind these items, of which so many are variables of their own
+abbrev pub variable_behind : Context → List Item → ℕ → Variable → Item
+variable_behind context items own v =
+    let value = definition_in (names_in context) v.1.1.1 in
+    item.Var v.1.0 (type_of v.0) v.1.1.0 value (number_behind items own value)
+
+abbrev pub variable_of : State → Variable → Item
+variable_of s v =
+    let value = definition_in (names_in s.context) v.1.1.1 in
+    item.Var v.1.0 (type_of v.0) v.1.1.0 value (number_of s.items value)
+
+abbrev pub variable_effect : State → Variable → State
+variable_effect s v = record {
+  context = with_variable (with_elements (declares s.context v.1.0 (if is_bool_type v.0 then BoolVar else IntVar)) (type_elements v.0));
+  items = s.items ++ variable_of s v ∷ [];
+}
+
 abbrev pub bool_effect : State → List ℕ × Bool → State
 bool_effect s p = with_item s p.0 (BoolConst p.1) (item.Bool p.0 p.1)
 
@@ -72,8 +110,11 @@ abbrev pub consts_effect : State → Bool × (List ℕ × List BasicText) → St
 consts_effect s p =
     with_count (with_item s p.1.0 (array_of s.context p.0 true p.1.1) (item.Consts p.1.0 p.0 (map (basic_in (names_in s.context)) p.1.1))) (length p.1.1)
 
+abbrev pub bounds_of : IntText × IntText → ℤ × ℤ
+bounds_of r = (r.0.0, r.1.0)
+
 abbrev pub shown_ranges : Shown → Option (List (ℤ × ℤ))
-shown_ranges (Some (Some ranges)) = Some (map (λ r. (r.0.0, r.1.0)) ranges)
+shown_ranges (Some (Some ranges)) = Some (map bounds_of ranges)
 shown_ranges _ = None
 
 abbrev pub vars_effect : State → grammar.TypeWords → Shape → State

@@ -8,7 +8,7 @@ ghost use Rattle.fz_model.specs.Words.{Key};
 ghost use Rattle.fz_items.specs.Wholes.{ItemsRead};
 
 use crate::declared::Declared;
-use crate::item::item;
+use crate::any_item::item;
 use crate::source::{Seen, Source};
 use crate::stop::Stop;
 use fz_token::{Keyword, TokenKind};

@@ -2,6 +2,7 @@
 #![tactic(auto)]
 
 mod annotations;
+mod any_item;
 mod argument;
 mod arguments;
 mod arrays;
@@ -12,8 +13,10 @@ mod elements;
 mod goal;
 mod item;
 mod items;
+mod kinds;
 mod literals;
 mod marks;
+mod numbering;
 mod parameters;
 mod places;
 mod ranges;
