@@ -30,7 +30,7 @@ unseen : {C : Type 0} (g : Production C) (r : Reading Word Fault Seen)
 unseen g (Takes seen rest) = unpaired seen (g.read rest)
 unseen g (Stops cause rest) = refl
 
-closed_reads : {C : Type 0} (g : Production C) → IsClose (λ notes. g) → (text : List Word) → mapped closing ((annotated (λ notes. g)).read text) ≡ followed (notes text) (λ seen rest. g.read rest)
+pub closed_reads : {C : Type 0} (g : Production C) → IsClose (λ notes. g) → (text : List Word) → mapped closing ((annotated (λ notes. g)).read text) ≡ followed (notes text) (λ seen rest. g.read rest)
 closed_reads {C} g is text =
     closing_seen ((annotated (λ notes. g)).read text)
     ∙ ap (λ (r : Reading Word Fault (Seen × C)). mapped (λ p. p.1) r) (annotated_reads (λ notes. g) is (λ seen. g) (λ ns. refl) text)

@@ -1,9 +1,10 @@
 -- A text that is being read, word by word.
-use Rattle.std.specs.Prelude.{◌≡◌, ℕ, ◌≤◌, List, [], ◌∷◌, ◌++◌, length, Option, Result}
+use Rattle.std.specs.Prelude.{◌≡◌, ℕ, ◌≤◌, List, [], ◌∷◌, ◌++◌, length, Option, Some, None, Result}
 use Rattle.dp_grammar.specs.Choice.{begins}
 use Rattle.fz_token.specs.Reading.{Reading}
 use Rattle.fz_token.specs.Stream.{Stream, stream, stream_at, before}
 use Rattle.fz_token.specs.declared.Token.{Token}
+use Rattle.fz_token.specs.declared.TokenKind.{TokenKind}
 use Rattle.fz_token.specs.declared.TokenRefusal.{TokenRefusal}
 use Rattle.fz_model.specs.Words.{Word}
 
@@ -32,3 +33,16 @@ pub record IsLeft (text : List ℕ) (left : Stream) : Type 0 where
   pub parts : (stream text).tokens ≡ front ++ left.tokens
   pub refusal : (stream text).refusal ≡ left.refusal
   pub lie : Lie (length text) left.tokens
+
+-- the last token of these is of this kind, and the one before it of that; None where there is none
+abbrev pub IsEnding : List Token → Option TokenKind → Option TokenKind → Type 0
+IsEnding front None None = front ≡ []
+IsEnding front (Some last) None = (token : Token) × (front ≡ token ∷ []) × (token.kind ≡ last)
+IsEnding front (Some last) (Some earlier) = (more : List Token) × (other : Token) × (token : Token) × (front ≡ more ++ other ∷ token ∷ []) × (other.kind ≡ earlier) × (token.kind ≡ last)
+IsEnding front None (Some earlier) = ⊥
+
+-- the tokens of the text before these end so
+pub record IsBehind (text : List ℕ) (left : Stream) (last earlier : Option TokenKind) : Type 0 where
+  pub front : List Token
+  pub parts : (stream text).tokens ≡ front ++ left.tokens
+  pub ending : IsEnding front last earlier

@@ -96,6 +96,20 @@ impl Declared {
         self
     }
 
+    /// The names, and the items.
+    pub fn into_parts(self) -> (Names, Vec<Item>)
+        ensures names { result.0 ≡ self.context }
+        ensures items { result.1.items ≡ self.items }
+        ensures elements { self.context.elements ≤ max_elements }
+    {
+        let Declared {
+            names,
+            items,
+            own: _,
+        } = self;
+        (names, items)
+    }
+
     /// With a variable or an alias more.
     pub fn with_variable(self, alloc: Global, text: VarText) -> Result<Declared, Memory>
         requires new { fresh self.context text.name.now ≡ None }

@@ -33,7 +33,7 @@ use fz_token::{Keyword, Mark};
 use std::alloc::Global;
 
 /// An integer parameter.
-fn int_item(alloc: Global, source: &mut Source, declared: Declared) -> Result<Declared, Stop>
+pub fn int_item(alloc: Global, source: &mut Source, declared: Declared) -> Result<Declared, Stop>
     ensures reads { Gives (λ d. d) (mapped (int_effect declared)
         (followed ((marks.keyword key.Int).read source.old.left) (λ u left. parameter_read declared.context (grammar.integer no_test) left))) result source.new.left }
     ensures text { source.new.text ≡ source.old.text }
@@ -48,7 +48,7 @@ fn int_item(alloc: Global, source: &mut Source, declared: Declared) -> Result<De
 }
 
 /// A Boolean parameter.
-fn bool_item(alloc: Global, source: &mut Source, declared: Declared) -> Result<Declared, Stop>
+pub fn bool_item(alloc: Global, source: &mut Source, declared: Declared) -> Result<Declared, Stop>
     ensures reads { Gives (λ d. d) (mapped (bool_effect declared)
         (followed ((marks.keyword key.Bool).read source.old.left) (λ u left. parameter_read declared.context truth left))) result source.new.left }
     ensures text { source.new.text ≡ source.old.text }
@@ -63,7 +63,7 @@ fn bool_item(alloc: Global, source: &mut Source, declared: Declared) -> Result<D
 }
 
 /// A variable or an alias.
-fn variable_item(alloc: Global, source: &mut Source, declared: Declared) -> Result<Declared, Stop>
+pub fn variable_item(alloc: Global, source: &mut Source, declared: Declared) -> Result<Declared, Stop>
     ensures reads { Gives (λ d. d) (mapped (variable_effect declared) (variable_read declared.context source.old.left)) result source.new.left }
     ensures text { source.new.text ≡ source.old.text }
 {

@@ -2,6 +2,7 @@
 #![tactic(auto)]
 
 mod annotations;
+mod any_item;
 mod argument;
 mod arguments;
 mod arrayed;
@@ -12,6 +13,7 @@ mod declared;
 mod elements;
 mod goal;
 mod item;
+mod items;
 mod kinds;
 mod literals;
 mod marks;
@@ -20,11 +22,15 @@ mod parameters;
 mod places;
 mod ranges;
 mod refusal;
+mod refused;
 mod rest;
 mod source;
 mod stop;
 mod text;
+mod unsupported;
 mod variables;
 mod want;
+mod whole;
 
 pub use refusal::ModelRefusal;
+pub use whole::read_model;

@@ -1,13 +1,15 @@
 //! The words of a text, one after another, with a look at what follows.
 
-ghost use Rattle.std.specs.Prelude.{◌≡◌, [], ◌∷◌, MatchOption};
+ghost use Rattle.std.specs.Prelude.{◌≡◌, [], ◌∷◌, MatchOption, length};
 ghost use Rattle.dp_grammar.specs.Choice.{begins};
 ghost use Rattle.fz_token.specs.Stream.{Stream, stream, before};
 ghost use Rattle.fz_model.specs.Marks.{is_key};
 ghost use Rattle.fz_model.specs.Words.{words, begins_dotted};
 ghost use Rattle.fz_items.specs.Seen.{word_of, is_mark};
+ghost use Rattle.fz_items.specs.Refusals.{here, unsupported_at};
 ghost use Rattle.fz_items.specs.Standing.{Standing, behind};
 
+use crate::unsupported::is_unsupported;
 use fz_token::{Keyword, Mark, Token, TokenKind, TokenRefusal, Tokens};
 use std::marker::Model;
 
@@ -26,18 +28,20 @@ pub struct Source<'a> {
     tokens: Tokens<'a>,
     present: Result<Option<Token>, TokenRefusal>,
     ahead: Result<Option<Token>, TokenRefusal>,
+    last: Option<TokenKind>,
+    earlier: Option<TokenKind>,
 }
 
 impl<'a> Model for Source<'a> {
     ghost use Rattle.std.specs.Prelude.{◌≡◌};
     ghost use Rattle.fz_model.specs.Words.{words};
-    ghost use Rattle.fz_items.specs.Standing.{Standing, IsLeft, left_of};
+    ghost use Rattle.fz_items.specs.Standing.{Standing, IsBehind, IsLeft, left_of};
 
     ghost Value = { Standing };
 
     ghost view = { λ s. record { text = s.text.now; left = words s.text.now (left_of s.present s.ahead s.tokens).tokens } };
 
-    ghost invariant = { λ s. (s.tokens.text ≡ s.text.now) × IsLeft s.text.now (left_of s.present s.ahead s.tokens) };
+    ghost invariant = { λ s. (s.tokens.text ≡ s.text.now) × IsLeft s.text.now (left_of s.present s.ahead s.tokens) × IsBehind s.text.now (left_of s.present s.ahead s.tokens) s.last s.earlier };
 }
 
 impl<'a> Source<'a> {
@@ -53,6 +57,8 @@ impl<'a> Source<'a> {
             tokens,
             present,
             ahead,
+            last: None,
+            earlier: None,
         }
     }
 
@@ -61,7 +67,9 @@ impl<'a> Source<'a> {
         ensures text { self.new.text ≡ self.old.text }
         ensures left { self.new.left ≡ behind self.old.left }
     {
-        if let Ok(Some(_)) = self.present {
+        if let Ok(Some(token)) = self.present {
+            self.earlier = self.last;
+            self.last = Some(token.kind);
             self.present = self.ahead;
             self.ahead = self.tokens.next();
         }
@@ -78,6 +86,29 @@ impl<'a> Source<'a> {
                 dotted: is_double_dot(&self.ahead),
             }),
             _ => None,
+        }
+    }
+}
+
+impl Source<'_> {
+    /// The place of the first word, or the text's length where no word is left; or why no token is there.
+    pub fn place(&self) -> Result<usize, TokenRefusal>
+        ensures { result ≡ here (length self.now.text) (stream self.now.text) self.now.left }
+    {
+        match self.present {
+            Ok(Some(token)) => Ok(token.start),
+            Ok(None) => Ok(self.text.len()),
+            Err(refusal) => Err(refusal),
+        }
+    }
+
+    /// Whether the first word is known and not supported behind the words before it.
+    pub fn is_unsupported(&self) -> bool
+        ensures { result ≡ unsupported_at (words self.now.text (stream self.now.text).tokens) self.now.left }
+    {
+        match self.word() {
+            Some(seen) => is_unsupported(seen.kind, self.last, self.earlier),
+            None => false,
         }
     }
 }

@@ -101,7 +101,7 @@ truth_is (Plain (Stop p)) b e = absurd cc
 truth_is (Opens c) b e = absurd cc
 truth_is (Closes c) b e = absurd cc
 
-truth_lawful : IsLawful truth
+pub truth_lawful : IsLawful truth
 truth_lawful = leaf_lawful (record { value = truth_of; token = truth_word; test = no_test }) (record { some = true; value_is = truth_is_of; token_is = truth_is })
 
 pub basic_no_close : (b : Bracket) (x : BasicText) → is_close b (basic_word x) ≡ false

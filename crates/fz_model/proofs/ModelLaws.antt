@@ -67,7 +67,7 @@ no_predicate context (inr (inr (inl s))) = refl
 no_predicate context (inr (inr (inr (inl a)))) = refl
 no_predicate context (inr (inr (inr (inr v)))) = refl
 
-item_lawful : (context : Context) → IsLawful (item context)
+pub item_lawful : (context : Context) → IsLawful (item context)
 item_lawful context =
     either_lawful (is_key key.Predicate) predicate_item (from_int context) (record { first = λ x. refl; second = no_predicate context }) predicate_lawful
     (either_lawful (is_key key.Int) (int_item context) (from_bool context) (record { first = λ x. refl; second = no_int context }) (int_item_lawful context)
@@ -75,7 +75,7 @@ item_lawful context =
     (either_lawful (is_key key.Set) (set_item context) (from_array context) (record { first = λ x. refl; second = no_set context }) (set_item_lawful context)
     (either_lawful (is_key key.Array) (array_item context) (variable_item context) (record { first = λ x. refl; second = λ y. refl }) (array_item_lawful context) (variable_item_lawful context)))))
 
-begins : (context : Context) (z : ItemWords) → IsLed begins_item true ((item context).spell z)
+pub begins : (context : Context) (z : ItemWords) → IsLed begins_item true ((item context).spell z)
 begins context (inl p) = refl
 begins context (inr (inl i)) = refl
 begins context (inr (inr (inl b))) = refl
@@ -89,17 +89,17 @@ no_satisfy : (context : Context) (z : (Unit {0} ⊎ Unit {0}) × List ℕ) → I
 no_satisfy context (inl x, bytes) = refl
 no_satisfy context (inr x, bytes) = refl
 
-goal_no_stop : (context : Context) (z : GoalWords) → IsLed (is_stop DoubleColon) false ((goal context).spell z)
+pub goal_no_stop : (context : Context) (z : GoalWords) → IsLed (is_stop DoubleColon) false ((goal context).spell z)
 goal_no_stop context (inl x) = refl
 goal_no_stop context (inr (inl x, bytes)) = refl
 goal_no_stop context (inr (inr x, bytes)) = refl
 
-goal_no_open : (context : Context) (z : GoalWords) → IsLed (is_open Round) false ((goal context).spell z)
+pub goal_no_open : (context : Context) (z : GoalWords) → IsLed (is_open Round) false ((goal context).spell z)
 goal_no_open context (inl x) = refl
 goal_no_open context (inr (inl x, bytes)) = refl
 goal_no_open context (inr (inr x, bytes)) = refl
 
-goal_lawful : (context : Context) → IsLawful (goal context)
+pub goal_lawful : (context : Context) → IsLawful (goal context)
 goal_lawful context =
     let named = name (λ bytes. known (meant_by context.entries bytes) goal_test) in
     let sense = either (is_key key.Minimize) (keyword key.Minimize) (keyword key.Maximize) in
@@ -113,19 +113,19 @@ goal_lawful context =
     (λ which. name_lawful (λ bytes. known (meant_by context.entries bytes) goal_test))))
     (stop_lawful Semicolon)
 
-solve_lawful : (context : Context) → IsLawful (solve_item context)
+pub solve_lawful : (context : Context) → IsLawful (solve_item context)
 solve_lawful context =
     behind_mark_lawful (keyword key.Solve) (annotated (λ notes. goal context)) (keyword_lawful key.Solve)
     (annotated_lawful (λ notes. goal context) (record { lawful = λ notes. goal_lawful context; no_more = λ notes c. goal_no_stop context c; no_args = λ notes c. goal_no_open context c }))
 
 -- ---- the model
 
-rest_lawful : (context : Context) → IsLawful (rest_of context)
+pub rest_lawful : (context : Context) → IsLawful (rest_of context)
 rest_lawful context =
     many_lawful (record { goes_on = is_key key.Constraint; item = λ kept. constraint_item context kept; close = λ kept. solve_item context })
     (record { item = constraint_item_lawful context; close = λ kept. solve_lawful context; begins = λ kept x. refl; ends = λ kept c. refl })
 
-rest_no_item : (context : Context) (z : Rest) → IsLed begins_item false ((rest_of context).spell z)
+pub rest_no_item : (context : Context) (z : Rest) → IsLed begins_item false ((rest_of context).spell z)
 rest_no_item context ([], c) = refl
 rest_no_item context (x ∷ xs, c) = refl
 
