@@ -1,25 +1,43 @@
--- What the code reads of an item is what the grammar reads of it.
-use Rattle.std.proofs.Common.{◌≡◌, ℕ, ◌+◌, Bool, true, false, if◌then◌else◌, ◌⊎◌, inl, inr, List, [], ◌∷◌, ◌++◌, length, map, Option, Some, None, refl, ap, sym, ◌∙◌, add_assoc}
+-- What the code reads of arrays, variables and predicates is what the grammar reads of them.
+use Rattle.std.proofs.Common.{◌≡◌, ℕ, ◌+◌, Bool, true, false, if◌then◌else◌, ◌⊎◌, inl, inr, List, [], ◌∷◌, ◌++◌, length, map, Option, Some, None, ℤ, refl, ap, sym, ◌∙◌, add_assoc}
 use Rattle.std.specs.Prelude.{codes}
 use Rattle.std.proofs.lemmas.List.{append-nil}
 use Rattle.fz_token.specs.declared.Keyword.TheVariants as key
 use Rattle.dp_grammar.specs.Chain.{followed, mapped, chain, behind_mark, before_mark}
 use Rattle.dp_grammar.specs.Choice.{begins, either, read_either}
 use Rattle.dp_grammar.specs.Grammar.{Reading, Takes, Stops, IsLawful}
-use Rattle.fz_model.specs.Annotations.{Annotation, Annotated, Close, annotated}
-use Rattle.fz_model.specs.Arrays as arrays
-use Rattle.fz_model.specs.Context.{Context, BasicText, fresh}
-use Rattle.fz_model.specs.Items as items
-use Rattle.fz_model.specs.Literals.{name}
-use Rattle.fz_model.specs.Marks.{Production, keyword, stop}
-use Rattle.fz_model.specs.ModelText.{closing, item, predicate_item}
+use Rattle.fz_model.specs.Annotations.{Annotation, Annotated, Close, annotated, balanced}
+use Rattle.fz_model.specs.Arrays.{array_item, array_size, constant_element, constants, elements_end, is_bools, notes_test, size_test, variable_element, variables}
+use Rattle.fz_model.specs.Context.{Context, BasicText, Truth, Whole, Name, fresh, fresh_variable, with_elements}
+use Rattle.fz_model.specs.Items.{IntText, TypeWords, array_literal, bool_item, defined, domain_test, int_item, is_bool_type, parameter, set_item, truth, type_elements, variable_end, variable_item}
+use Rattle.fz_model.specs.Limits.{beyond_small, no_test}
+use Rattle.fz_model.specs.Literals.{integer, name, var_type}
+use Rattle.fz_model.specs.Marks.{Production, is_key, is_stop, keyword, opens, stop}
+use Rattle.dp_grammar.specs.Leaf.{tested_mark}
+use Rattle.dp_grammar.specs.Brackets.{Plain}
+use Rattle.fz_model.specs.ModelText.{ArrayWords, VariableWords, array_of, closing, declares, item, predicate_item}
+use Rattle.fz_model.specs.Models.{basic_of_text, count_variables, definition_of, elements_of, is_noted, name_of_item, notes_of, number_of, output_of, type_of}
 use Rattle.fz_model.specs.declared.fault.Fault.{Fault}
-use Rattle.fz_model.specs.Words.{Colon, Equals, Semicolon, Word}
+use Rattle.fz_model.specs.declared.meant.Meant.{Meant}
+use Rattle.fz_model.specs.declared.meant.Meant.TheVariants.{IntVar, BoolVar}
+use Rattle.fz_model.specs.declared.model.Basic.{Basic}
+use Rattle.fz_model.specs.declared.model.Item.{Item}
+use Rattle.fz_model.specs.declared.model.Item.TheVariants as kept
+use Rattle.fz_model.specs.Words.{Colon, Equals, Round, Semicolon, Stop, Word}
 use Rattle.fz_model.proofs.AnnotationLaws.{IsClose}
-use Rattle.fz_model.proofs.ItemLaws.{defined_lawful}
-use Rattle.fz_items.specs.Notes.{Seen, notes, seen_in, seen_of}
-use Rattle.fz_items.specs.Parameters.{name_read, parameter_read}
+use Rattle.fz_model.proofs.ArrayLaws.{elements_end_lawful}
+use Rattle.fz_model.proofs.ItemLaws.{array_literal_lawful, no_args, no_second, variable_end_lawful}
+use Rattle.fz_names.specs.Counts.{with_variable}
+use Rattle.fz_items.specs.Arrays.{Shape, array_behind, array_head_of, array_test, elements_shut}
+use Rattle.fz_items.specs.ItemReads.{array_told, item_told, predicate_read, vars_told}
+use Rattle.fz_items.specs.Notes.{Seen, closing_all, nothing_of, notes, seen_in, seen_of}
+use Rattle.fz_items.specs.Parameters.{array_head_read, consts_read, parameter_read}
+use Rattle.fz_items.specs.Places.{basic_in, names_in}
+use Rattle.fz_items.specs.States.{State, consts_effect, definition_in, effect, shown_ranges, variable_effect, vars_effect, with_count}
+use Rattle.fz_items.specs.Variables.{Variable, variable_read}
 use Rattle.fz_items.proofs.Annotated.{annotated_reads}
+use Rattle.fz_items.proofs.ItemReads.{bool_item_reads, defined_closes, from_array, from_bool, from_int, from_set, first_is, int_item_reads, named_closing, parameter_reads, second_is, set_item_reads}
+use Rattle.fz_items.proofs.SeenLaws.{output_seen, test_seen, var_seen}
 
 -- ---- how a reading goes on
 
@@ -79,52 +97,100 @@ closing_read {C} {Z} close is shut looks f g same text =
     ∙ followed_same (notes text) (λ seen rest. mapped g (mapped (λ c. let p : Seen × C = (seen, c) in p) ((shut seen).read rest))) (λ seen rest. mapped (λ c. g (seen, c)) ((shut seen).read rest))
     (λ seen rest. mapped_twice g (λ c. let p : Seen × C = (seen, c) in p) ((shut seen).read rest))
 
-defined_is : {C : Type 0} (g : Production C) → IsLawful g → IsClose {C = C} (λ notes. items.defined g)
-defined_is g gl = record { lawful = λ notes. defined_lawful g gl; no_more = λ notes c. refl; no_args = λ notes c. refl }
 
--- '=' g ';', behind annotations
-value_read : {C Z : Type 0} (g : Production C) (f : C → Z) (text : List Word) → mapped f ((items.defined g).read text) ≡ followed ((stop Equals).read text) (λ u rest. mapped f ((before_mark g (stop Semicolon)).read rest))
-value_read g f text = ap (mapped f) (behind_reads (stop Equals) (before_mark g (stop Semicolon)) text) ∙ mapped_followed f ((stop Equals).read text) (λ u rest. (before_mark g (stop Semicolon)).read rest)
+-- ---- places
 
-flat_equals : {C Z : Type 0} (g : Production C) (k : List ℕ × C → Z) (bytes : List ℕ) (r : Reading Word Fault (Unit {0}))
-    → mapped k (followed (mapped (λ u. bytes) r) (λ bytes left. mapped (λ c. let p : List ℕ × C = (bytes, c) in p) ((before_mark g (stop Semicolon)).read left))) ≡ followed r (λ u rest. mapped (λ c. k (bytes, c)) ((before_mark g (stop Semicolon)).read rest))
-flat_equals {C} g k bytes (Takes u rest) = mapped_twice k (λ c. let p : List ℕ × C = (bytes, c) in p) ((before_mark g (stop Semicolon)).read rest)
-flat_equals g k bytes (Stops cause rest) = refl
+basic_same : (items : List Item) (t : BasicText) → basic_in (map name_of_item items) t ≡ basic_of_text items t
+basic_same items (Truth value) = refl
+basic_same items (Whole value dotted) = refl
+basic_same items (Name bytes) = refl
 
-flat_notes : {C Z : Type 0} (g : Production C) (k : List ℕ × C → Z) (bytes : List ℕ) (r : Reading Word Fault Seen)
-    → mapped k (followed (followed r (λ seen left. mapped (λ u. bytes) ((stop Equals).read left))) (λ bytes left. mapped (λ c. let p : List ℕ × C = (bytes, c) in p) ((before_mark g (stop Semicolon)).read left)))
-      ≡ followed r (λ seen rest. followed ((stop Equals).read rest) (λ u rest. mapped (λ c. k (bytes, c)) ((before_mark g (stop Semicolon)).read rest)))
-flat_notes g k bytes (Takes seen rest) = flat_equals g k bytes ((stop Equals).read rest)
-flat_notes g k bytes (Stops cause rest) = refl
+all_same : (items : List Item) (ts : List BasicText) → map (basic_in (map name_of_item items)) ts ≡ elements_of items ts
+all_same items [] = refl
+all_same items (t ∷ ts) = ap (λ (b : Basic). b ∷ map (basic_in (map name_of_item items)) ts) (basic_same items t) ∙ ap (λ (bs : List Basic). basic_of_text items t ∷ bs) (all_same items ts)
 
-flat_name : {C Z : Type 0} (g : Production C) (k : List ℕ × C → Z) (r : Reading Word Fault (List ℕ))
-    → mapped k (followed (followed r (λ bytes left. followed (notes left) (λ seen left. mapped (λ u. bytes) ((stop Equals).read left)))) (λ bytes left. mapped (λ c. let p : List ℕ × C = (bytes, c) in p) ((before_mark g (stop Semicolon)).read left)))
-      ≡ followed r (λ bytes rest. followed (notes rest) (λ seen rest. followed ((stop Equals).read rest) (λ u rest. mapped (λ c. k (bytes, c)) ((before_mark g (stop Semicolon)).read rest))))
-flat_name g k (Takes bytes rest) = flat_notes g k bytes (notes rest)
-flat_name g k (Stops cause rest) = refl
+elements_same : (s : State) → names_in s.context ≡ map name_of_item s.items → (ts : List BasicText) → elements_of s.items ts ≡ map (basic_in (names_in s.context)) ts
+elements_same s named ts = sym (ap (λ (names : List (List ℕ)). map (basic_in names) ts) named ∙ all_same s.items ts)
 
-flat_colon : {C Z : Type 0} (context : Context) (g : Production C) (k : List ℕ × C → Z) (r : Reading Word Fault (Unit {0}))
-    → mapped k (followed (followed r (λ u left. followed ((name (fresh context)).read left) (λ bytes left. followed (notes left) (λ seen left. mapped (λ u. bytes) ((stop Equals).read left))))) (λ bytes left. mapped (λ c. let p : List ℕ × C = (bytes, c) in p) ((before_mark g (stop Semicolon)).read left)))
-      ≡ followed r (λ u rest. followed ((name (fresh context)).read rest) (λ bytes rest. followed (notes rest) (λ seen rest. followed ((stop Equals).read rest) (λ u rest. mapped (λ c. k (bytes, c)) ((before_mark g (stop Semicolon)).read rest)))))
-flat_colon context g k (Takes u rest) = flat_name g k ((name (fresh context)).read rest)
-flat_colon context g k (Stops cause rest) = refl
+definition_same : (s : State) → names_in s.context ≡ map name_of_item s.items → (x : BasicText ⊎ Unit {0}) → definition_of s.items x ≡ definition_in (names_in s.context) x
+definition_same s named (inl t) = ap (λ (b : Basic). Some b) (sym (ap (λ (names : List (List ℕ)). basic_in names t) named ∙ basic_same s.items t))
+definition_same s named (inr u) = refl
 
-flat : {C Z : Type 0} (context : Context) (g : Production C) (k : List ℕ × C → Z) (text : List Word) → mapped k (parameter_read context g text)
-    ≡ followed ((stop Colon).read text) (λ u rest. followed ((name (fresh context)).read rest) (λ bytes rest. followed (notes rest) (λ seen rest. followed ((stop Equals).read rest) (λ u rest. mapped (λ c. k (bytes, c)) ((before_mark g (stop Semicolon)).read rest)))))
-flat {C} context g k text = flat_colon context g k ((stop Colon).read text)
+-- ---- an array of constants
 
--- a parameter, seen by what it declares
-pub parameter_reads : {C Z : Type 0} (context : Context) (g : Production C) → IsLawful g → (f : List ℕ × Annotated C → Z) (k : List ℕ × C → Z) → ((p : List ℕ × Annotated C) → f p ≡ k (p.0, closing p.1)) → (text : List Word)
-    → mapped f ((items.parameter context g).read text) ≡ mapped k (parameter_read context g text)
-parameter_reads {C} {Z} context g gl f k same text =
-    let named = chain (name (fresh context)) (λ bytes. annotated (λ notes. items.defined g)) in
-    ap (mapped f) (behind_reads (stop Colon) named text)
-    ∙ mapped_followed f ((stop Colon).read text) (λ u rest. named.read rest)
-    ∙ followed_same ((stop Colon).read text) (λ u rest. mapped f (named.read rest)) (λ u rest. followed ((name (fresh context)).read rest) (λ bytes rest. followed (notes rest) (λ seen rest. followed ((stop Equals).read rest) (λ u rest. mapped (λ c. k (bytes, c)) ((before_mark g (stop Semicolon)).read rest)))))
-    (λ u rest. mapped_followed f ((name (fresh context)).read rest) (λ bytes rest. mapped (λ y. let p : List ℕ × Annotated C = (bytes, y) in p) ((annotated (λ notes. items.defined g)).read rest))
-      ∙ followed_same ((name (fresh context)).read rest) (λ bytes rest. mapped f (mapped (λ y. let p : List ℕ × Annotated C = (bytes, y) in p) ((annotated (λ notes. items.defined g)).read rest))) (λ bytes rest. followed (notes rest) (λ seen rest. followed ((stop Equals).read rest) (λ u rest. mapped (λ c. k (bytes, c)) ((before_mark g (stop Semicolon)).read rest))))
-      (λ bytes rest. mapped_twice f (λ y. let p : List ℕ × Annotated C = (bytes, y) in p) ((annotated (λ notes. items.defined g)).read rest)
-        ∙ closing_read (λ notes. items.defined g) (defined_is g gl) (λ seen. items.defined g) (λ ns. refl) (λ y. f (bytes, y)) (λ q. k (bytes, q.1)) (λ x. same (bytes, x) ∙ ap (λ c. k (bytes, c)) (closed_seen x)) rest
-        ∙ followed_same (notes rest) (λ seen rest. mapped (λ c. k (bytes, c)) ((items.defined g).read rest)) (λ seen rest. followed ((stop Equals).read rest) (λ u rest. mapped (λ c. k (bytes, c)) ((before_mark g (stop Semicolon)).read rest)))
-        (λ seen rest. value_read g (λ c. k (bytes, c)) rest)))
-    ∙ sym (flat context g k text)
+consts_state : (s : State) → names_in s.context ≡ map name_of_item s.items → (size : Bool × IntText) (p : (Unit {0} ⊎ Unit {0}) × (List ℕ × Annotated (List BasicText)))
+    → effect s (inr (inr (inr (inr (inl (size, inr p)))))) ≡ consts_effect s (is_bools p.0, named_closing p.1)
+consts_state s named size (inl bool, p) = ap (λ (es : List Basic). with_count (record { context = declares s.context p.0 (array_of s.context true true (closing p.1)); items = s.items ++ kept.Consts p.0 true es ∷ [] }) (length (closing p.1))) (elements_same s named (closing p.1))
+consts_state s named size (inr int, p) = ap (λ (es : List Basic). with_count (record { context = declares s.context p.0 (array_of s.context false true (closing p.1)); items = s.items ++ kept.Consts p.0 false es ∷ [] }) (length (closing p.1))) (elements_same s named (closing p.1))
+
+abbrev kinds : Production (Unit {0} ⊎ Unit {0})
+kinds = either (is_key key.Bool) (keyword key.Bool) (keyword key.Int)
+
+abbrev const_array : Context → IntText → Unit {0} ⊎ Unit {0} → Production (List BasicText)
+const_array context size kind = array_literal (constant_element context (is_bools kind)) (size_test size)
+
+at_kind : (s : State) → names_in s.context ≡ map name_of_item s.items → (size : Bool × IntText) (r : Reading Word Fault (Unit {0} ⊎ Unit {0}))
+    → mapped (λ p. effect s (inr (inr (inr (inr (inl (size, inr p))))))) (followed r (λ kind rest. mapped (λ y. let p : (Unit {0} ⊎ Unit {0}) × (List ℕ × Annotated (List BasicText)) = (kind, y) in p) ((parameter s.context (const_array s.context size.1 kind)).read rest)))
+      ≡ mapped (consts_effect s) (followed r (λ kind left. mapped (λ p. let q : Bool × (List ℕ × List BasicText) = (is_bools kind, p) in q) (parameter_read s.context (const_array s.context size.1 kind) left)))
+at_kind s named size (Takes kind rest) =
+    let f = λ (p : (Unit {0} ⊎ Unit {0}) × (List ℕ × Annotated (List BasicText))). effect s (inr (inr (inr (inr (inl (size, inr p)))))) in
+    let g = const_array s.context size.1 kind in
+    mapped_twice f (λ y. let p : (Unit {0} ⊎ Unit {0}) × (List ℕ × Annotated (List BasicText)) = (kind, y) in p) ((parameter s.context g).read rest)
+    ∙ mapped_same (λ (y : List ℕ × Annotated (List BasicText)). f (kind, y)) (λ y. consts_effect s (is_bools kind, named_closing y)) ((parameter s.context g).read rest) (λ y. consts_state s named size (kind, y))
+    ∙ sym (mapped_twice (λ (q : List ℕ × List BasicText). consts_effect s (is_bools kind, q)) named_closing ((parameter s.context g).read rest))
+    ∙ ap (mapped (λ (q : List ℕ × List BasicText). consts_effect s (is_bools kind, q)))
+      (parameter_reads s.context g (defined_closes g (array_literal_lawful (constant_element s.context (is_bools kind)) (size_test size.1))) rest)
+    ∙ sym (mapped_twice (consts_effect s) (λ p. let q : Bool × (List ℕ × List BasicText) = (is_bools kind, p) in q) (parameter_read s.context g rest))
+at_kind s named size (Stops cause rest) = refl
+
+consts_reads : (s : State) → names_in s.context ≡ map name_of_item s.items → (size : Bool × IntText) (text : List Word)
+    → mapped (λ p. effect s (inr (inr (inr (inr (inl (size, inr p))))))) ((constants s.context size.1).read text) ≡ mapped (consts_effect s) (consts_read s.context size.1 text)
+consts_reads s named size text = at_kind s named size (kinds.read text)
+
+-- ---- an array of variables
+
+shown_same : {C : Type 0} (x : Annotated C) → output_of (notes_of x) ≡ shown_ranges (seen_of x).0.array
+shown_same (inl p) = output_seen (p.0 ++ p.1.0 ∷ [])
+shown_same (inr c) = refl
+
+vars_state : (s : State) → names_in s.context ≡ map name_of_item s.items → (size : Bool × IntText) (type : TypeWords) (bytes : List ℕ) (x : Annotated (List BasicText))
+    → effect s (inr (inr (inr (inr (inl (size, inl (type, (bytes, x)))))))) ≡ vars_effect (with_count s (type_elements type)) type (bytes, ((seen_of x).0.array, (seen_of x).1))
+vars_state s named size type bytes x =
+    let made : ℕ → Option (List (ℤ × ℤ)) → List Basic → State = λ n shown es. record {
+      context = record (declares s.context bytes (array_of s.context (is_bool_type type) false (closing x))) { elements = n };
+      items = s.items ++ kept.Vars bytes (type_of type) shown es ∷ [];
+    } in
+    ap (λ (n : ℕ). made n (output_of (notes_of x)) (elements_of s.items (closing x))) (sym (add_assoc s.context.elements (type_elements type) (length (closing x))))
+    ∙ ap (λ (shown : Option (List (ℤ × ℤ))). made (s.context.elements + type_elements type + length (closing x)) shown (elements_of s.items (closing x))) (shown_same x)
+    ∙ ap (made (s.context.elements + type_elements type + length (closing x)) (shown_ranges (seen_of x).0.array)) (elements_same s named (closing x))
+    ∙ ap (λ (es : List BasicText). vars_effect (with_count s (type_elements type)) type (bytes, ((seen_of x).0.array, es))) (closed_seen x)
+
+elements_close : (context : Context) (size : IntText) (type : TypeWords) → IsClose (elements_end context size type)
+elements_close context size type = record { lawful = elements_end_lawful context size type; no_more = λ notes c. refl; no_args = λ notes c. refl }
+
+elements_look : (context : Context) (size : IntText) (type : TypeWords) (ns : List Annotation) → elements_end context size type ns ≡ elements_shut context size type (seen_in ns).array
+elements_look context size type ns =
+    ap (λ (o : Option Fault). behind_mark (stop Equals) (before_mark (array_literal (variable_element context type) (size_test size)) (tested_mark (is_stop Semicolon) (Plain (Stop Semicolon)) o))) (test_seen size ns)
+
+vars_named : (s : State) → names_in s.context ≡ map name_of_item s.items → (size : Bool × IntText) (type : TypeWords) (r : Reading Word Fault (List ℕ))
+    → mapped (λ y. effect s (inr (inr (inr (inr (inl (size, inl (type, y)))))))) (followed r (λ bytes rest. mapped (λ y. let p : List ℕ × Annotated (List BasicText) = (bytes, y) in p) ((annotated (elements_end (with_elements s.context (type_elements type)) size.1 type)).read rest)))
+      ≡ mapped (vars_effect (with_count s (type_elements type)) type) (followed r (λ bytes left. followed (notes left) (λ seen left. mapped (λ elements. let v : Shape = (bytes, (seen.array, elements)) in v) ((elements_shut (with_elements s.context (type_elements type)) size.1 type seen.array).read left))))
+vars_named s named size type (Takes bytes rest) =
+    let context = with_elements s.context (type_elements type) in
+    let f = λ (y : List ℕ × Annotated (List BasicText)). effect s (inr (inr (inr (inr (inl (size, inl (type, y))))))) in
+    let told = vars_effect (with_count s (type_elements type)) type in
+    mapped_twice f (λ y. let p : List ℕ × Annotated (List BasicText) = (bytes, y) in p) ((annotated (elements_end context size.1 type)).read rest)
+    ∙ closing_read (elements_end context size.1 type) (elements_close context size.1 type) (λ seen. elements_shut context size.1 type seen.array) (elements_look context size.1 type) (λ x. f (bytes, x)) (λ q. told (bytes, (q.0.array, q.1))) (λ x. vars_state s named size type bytes x) rest
+    ∙ followed_same (notes rest) (λ seen rest. mapped (λ es. told (bytes, (seen.array, es))) ((elements_shut context size.1 type seen.array).read rest)) (λ seen rest. mapped told (mapped (λ elements. let v : Shape = (bytes, (seen.array, elements)) in v) ((elements_shut context size.1 type seen.array).read rest)))
+      (λ seen rest. sym (mapped_twice told (λ elements. let v : Shape = (bytes, (seen.array, elements)) in v) ((elements_shut context size.1 type seen.array).read rest)))
+    ∙ sym (mapped_followed told (notes rest) (λ seen left. mapped (λ elements. let v : Shape = (bytes, (seen.array, elements)) in v) ((elements_shut context size.1 type seen.array).read left)))
+vars_named s named size type (Stops cause rest) = refl
+
+vars_colon : (s : State) → names_in s.context ≡ map name_of_item s.items → (size : Bool × IntText) (type : TypeWords) (r : Reading Word Fault (Unit {0}))
+    → mapped (λ y. effect s (inr (inr (inr (inr (inl (size, inl (type, y)))))))) (followed r (λ u rest. (chain (name (fresh s.context)) (λ bytes. annotated (elements_end (with_elements s.context (type_elements type)) size.1 type))).read rest))
+      ≡ mapped (vars_effect (with_count s (type_elements type)) type) (followed r (λ u left. followed ((name (fresh s.context)).read left) (λ bytes left. followed (notes left) (λ seen left. mapped (λ elements. let v : Shape = (bytes, (seen.array, elements)) in v) ((elements_shut (with_elements s.context (type_elements type)) size.1 type seen.array).read left)))))
+vars_colon s named size type (Takes u rest) = vars_named s named size type ((name (fresh s.context)).read rest)
+vars_colon s named size type (Stops cause rest) = refl
+
+pub item_reads : (s : State) → names_in s.context ≡ map name_of_item s.items → (text : List Word) → mapped (effect s) ((item s.context).read text) ≡ item_told s text
+item_reads s named text = ?

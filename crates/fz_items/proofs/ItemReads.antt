@@ -90,7 +90,7 @@ pub behind_reads : {X Y : Type 0} (m : Production (Unit {0})) (g : Production X)
     → (left : List Word) → mapped view ((behind_mark m g).read left) ≡ followed (m.read left) (λ u left. target left)
 behind_reads m g view target e left = ap (mapped view) (marked_reads m g left) ∙ behind_followed g view target e (m.read left)
 
-defined_closes : {C : Type 0} (g : Production C) → IsLawful g → IsClose (λ notes. defined g)
+pub defined_closes : {C : Type 0} (g : Production C) → IsLawful g → IsClose (λ notes. defined g)
 defined_closes g is = record { lawful = λ notes. defined_lawful g is; no_more = λ notes c. refl; no_args = λ notes c. refl }
 
 int_reads : (context : Context) (left : List Word) → mapped named_closing ((int_item context).read left) ≡ followed ((keyword key.Int).read left) (λ u left. parameter_read context (integer no_test) left)
@@ -113,22 +113,22 @@ set_reads context left =
 
 -- ---- which item it is
 
-abbrev from_array : Context → Production (ArrayWords ⊎ VariableWords)
+abbrev pub from_array : Context → Production (ArrayWords ⊎ VariableWords)
 from_array context = either (is_key key.Array) (array_item context) (variable_item context)
 
-abbrev from_set : Context → Production ((List ℕ × Annotated SetWords) ⊎ (ArrayWords ⊎ VariableWords))
+abbrev pub from_set : Context → Production ((List ℕ × Annotated SetWords) ⊎ (ArrayWords ⊎ VariableWords))
 from_set context = either (is_key key.Set) (set_item context) (from_array context)
 
-abbrev from_bool : Context → Production ((List ℕ × Annotated Bool) ⊎ ((List ℕ × Annotated SetWords) ⊎ (ArrayWords ⊎ VariableWords)))
+abbrev pub from_bool : Context → Production ((List ℕ × Annotated Bool) ⊎ ((List ℕ × Annotated SetWords) ⊎ (ArrayWords ⊎ VariableWords)))
 from_bool context = either (is_key key.Bool) (bool_item context) (from_set context)
 
-abbrev from_int : Context → Production ((List ℕ × Annotated IntText) ⊎ ((List ℕ × Annotated Bool) ⊎ ((List ℕ × Annotated SetWords) ⊎ (ArrayWords ⊎ VariableWords))))
+abbrev pub from_int : Context → Production ((List ℕ × Annotated IntText) ⊎ ((List ℕ × Annotated Bool) ⊎ ((List ℕ × Annotated SetWords) ⊎ (ArrayWords ⊎ VariableWords))))
 from_int context = either (is_key key.Int) (int_item context) (from_bool context)
 
-first_is : {X Y : Type 0} (test : Word → Bool) (g : Production X) (h : Production Y) (left : List Word) → begins test left ≡ true → (either test g h).read left ≡ mapped inl (g.read left)
+pub first_is : {X Y : Type 0} (test : Word → Bool) (g : Production X) (h : Production Y) (left : List Word) → begins test left ≡ true → (either test g h).read left ≡ mapped inl (g.read left)
 first_is test g h left b = ap (λ (b : Bool). read_either b g h left) b
 
-second_is : {X Y : Type 0} (test : Word → Bool) (g : Production X) (h : Production Y) (left : List Word) → begins test left ≡ false → (either test g h).read left ≡ mapped inr (h.read left)
+pub second_is : {X Y : Type 0} (test : Word → Bool) (g : Production X) (h : Production Y) (left : List Word) → begins test left ≡ false → (either test g h).read left ≡ mapped inr (h.read left)
 second_is test g h left b = ap (λ (b : Bool). read_either b g h left) b
 
 int_seen : (s : State) (r : Reading Word Fault (List ℕ × Annotated IntText)) → mapped (effect s) (mapped inr (mapped inl r)) ≡ mapped (int_effect s) (mapped named_closing r)

@@ -7,10 +7,9 @@ ghost use Rattle.fz_items.specs.Gives.{Gives};
 ghost use Rattle.fz_items.specs.States.{effect};
 
 use crate::declared::Declared;
-use crate::item::{bool_item, int_item};
+use crate::item::told;
 use crate::source::Source;
 use crate::stop::Stop;
-use fz_token::Keyword;
 use std::alloc::Global;
 
 /// An item.
@@ -18,14 +17,5 @@ pub fn item(alloc: Global, source: &mut Source, declared: Declared) -> Result<De
     ensures reads { Gives (λ d. d) (mapped (effect declared) ((grammar.item declared.context).read source.old.left)) result source.new.left }
     ensures text { source.new.text ≡ source.old.text }
 {
-    if source.is_keyword(Keyword::Predicate) {
-        return Err(Stop::Memory);
-    }
-    if source.is_keyword(Keyword::Int) {
-        return int_item(alloc, source, declared);
-    }
-    if source.is_keyword(Keyword::Bool) {
-        return bool_item(alloc, source, declared);
-    }
-    Err(Stop::Memory)
+    told(alloc, source, declared)
 }

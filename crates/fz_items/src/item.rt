@@ -154,7 +154,7 @@ fn predicate_item(alloc: Global, source: &mut Source) -> Result<(), Stop>
 }
 
 /// An item. What is declared with it.
-pub fn item(alloc: Global, source: &mut Source, declared: Declared) -> Result<Declared, Stop>
+pub fn told(alloc: Global, source: &mut Source, declared: Declared) -> Result<Declared, Stop>
     ensures reads { Gives (λ d. d) (item_told declared source.old.left) result source.new.left }
     ensures text { source.new.text ≡ source.old.text }
     ensures named { names_in declared.context ≡ map name_of_item declared.items }

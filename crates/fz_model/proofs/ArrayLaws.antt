@@ -71,7 +71,7 @@ constants_lawful context size =
     (either_lawful (is_key key.Bool) (keyword key.Bool) (keyword key.Int) (record { first = λ x. refl; second = λ y. refl }) (keyword_lawful key.Bool) (keyword_lawful key.Int))
     (λ kind. parameter_lawful context (array_literal (constant_element context (is_bools kind)) (size_test size)) (array_literal_lawful (constant_element context (is_bools kind)) (size_test size)))
 
-elements_end_lawful : (context : Context) (size : IntText) (type : TypeWords) (notes : List Annotation) → IsLawful (elements_end context size type notes)
+pub elements_end_lawful : (context : Context) (size : IntText) (type : TypeWords) (notes : List Annotation) → IsLawful (elements_end context size type notes)
 elements_end_lawful context size type notes =
     let literal = array_literal (variable_element context type) (size_test size) in
     let end = tested_mark (is_stop Semicolon) (Plain (Stop Semicolon)) (notes_test size notes) in

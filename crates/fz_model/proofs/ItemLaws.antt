@@ -154,18 +154,18 @@ set_item_lawful context =
     (behind_mark_lawful (keyword key.Int) (parameter context set) (keyword_lawful key.Int)
     (parameter_lawful context set (set_literal_lawful (λ kept value. one_more context (length kept)) no_test))))
 
-variable_end_lawful : (context : Context) (type : TypeWords) → IsLawful (variable_end context type)
+pub variable_end_lawful : (context : Context) (type : TypeWords) → IsLawful (variable_end context type)
 variable_end_lawful context type =
     either_lawful (is_stop Equals) (defined (basic (definition_test context type))) (tested_mark (is_stop Semicolon) (Plain (Stop Semicolon)) (refuse_if (is_int_type type) Unbounded))
     (record { first = λ x. refl; second = λ y. refl })
     (defined_lawful (basic (definition_test context type)) (basic_lawful (definition_test context type)))
     (tested_mark_lawful (is_stop Semicolon) (Plain (Stop Semicolon)) (refuse_if (is_int_type type) Unbounded) (stop_is_only Semicolon))
 
-no_second : (context : Context) (type : TypeWords) (z : BasicText ⊎ Unit {0}) → IsLed (is_stop DoubleColon) false ((variable_end context type).spell z)
+pub no_second : (context : Context) (type : TypeWords) (z : BasicText ⊎ Unit {0}) → IsLed (is_stop DoubleColon) false ((variable_end context type).spell z)
 no_second context type (inl x) = refl
 no_second context type (inr y) = refl
 
-no_args : (context : Context) (type : TypeWords) (z : BasicText ⊎ Unit {0}) → IsLed (is_open Round) false ((variable_end context type).spell z)
+pub no_args : (context : Context) (type : TypeWords) (z : BasicText ⊎ Unit {0}) → IsLed (is_open Round) false ((variable_end context type).spell z)
 no_args context type (inl x) = refl
 no_args context type (inr y) = refl
 
