@@ -26,6 +26,8 @@ mod refused;
 mod rest;
 mod source;
 mod stop;
+#[cfg(test)]
+mod tests;
 mod text;
 mod unsupported;
 mod variables;
