@@ -19,7 +19,6 @@ use Rattle.dp_parts.specs.Problems.{Csp, IsSolution}
 use Rattle.fz_facts.specs.Facts.{IsGoal, IsVariable}
 use Rattle.fz_facts.proofs.WellFormed.{well_formed}
 use Rattle.fz_model.specs.Models.{IsModel, Plan, count_variables}
-
 use Rattle.fz_model.specs.declared.model.Basic.TheVariants as basic
 use Rattle.fz_model.specs.declared.model.Item.{Item}
 use Rattle.fz_model.specs.declared.model.ModelGoal.{ModelGoal}

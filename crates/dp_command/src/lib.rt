@@ -13,5 +13,5 @@ pub use program::run;
 pub(crate) use trouble::Trouble;
 pub use words::{Command, read_words};
 
-
-
+#[cfg(test)]
+mod tests;

@@ -19,11 +19,7 @@ pub(crate) enum Claim {
     /// No assignment satisfies the model.
     Unsat,
     /// No assignment beats this bound on the goal's variable.
-    Bound {
-        name: Name,
-        op: Op,
-        value: i64,
-    },
+    Bound { name: Name, op: Op, value: i64 },
 }
 
 /// What the program says where nothing fails.
@@ -172,11 +168,7 @@ fn refused_line(alloc: Global, name: &str, line: u64) -> Result<Vec<u8>, Memory>
 }
 
 // The text where a test refuses a line.
-fn refused(
-    alloc: Global,
-    refusal: StepRefusal,
-    told: &Option<Text>,
-) -> Result<Vec<u8>, Memory>
+fn refused(alloc: Global, refusal: StepRefusal, told: &Option<Text>) -> Result<Vec<u8>, Memory>
     ensures { IfOk result (λ text. text.items ≡ texts.refused_text refusal told.now) }
 {
     let mut text = refusal_line(alloc, refusal)?;
