@@ -391,3 +391,43 @@ fn models_are_refused_at_their_place(rt: HostRuntime) -> Result<(), Fail> {
     }
     Ok(())
 }
+
+// Behind two atoms, a step and a conclusion's step: each test that refuses, plain and before a later one.
+const KNOWN: &str = "a 1 [obj >= 7]\na 2 [obj >= 8]\ni 1 -1 0 c:1 l:linear\nn 2 -1 0 1\n";
+
+#[test]
+fn each_test_has_its_place(rt: HostRuntime) -> Result<(), Fail> {
+    let alloc = rt.alloc();
+    let rows = [
+        ("a 3 [absent >= 1]", "UnknownVar"),
+        ("a 1 [absent >= 1]", "UnknownVar"),
+        ("a 2 [obj >= 1]", "AtomTwice"),
+        ("a 1 [obj == 7]", "AtomTwice"),
+        ("n 3 -1 4 5", "UnknownAtom 4"),
+        ("i 1 1 0 -9 c:7", "UnknownAtom -9"),
+        ("i 1 1 0 -1 c:1 l:linear", "StepTwice"),
+        ("n 2 -1 0 9", "StepTwice"),
+        ("n 3 -1 0 1 9", "UnknownStep 9"),
+        ("n 3 1 0 3", "UnknownStep 3"),
+        ("i 3 -1 0 c:2", "UnknownConstraint"),
+        ("i 3 1 0 c:2 l:element", "UnknownConstraint"),
+        ("i 3 -1 0 c:1 l:clause", "WrongLabel"),
+        ("i 3 1 0 l:linear", "WrongLabel"),
+        ("i 3 1 0 c:1 l:linear", "NotImplied"),
+        ("i 3 -1 0 c:1 l:initial_domain", "NotImplied"),
+        ("n 3 1 0 1 2", "NoClash"),
+        ("n 3 -1", "NoClash"),
+        ("c 5", "UnknownAtom 5"),
+        ("c -1", "WrongBound"),
+        ("c 2", "NotConcluded"),
+        ("c UNSAT", "NotConcluded"),
+    ];
+    for (line, why) in rows {
+        let log = format!(in alloc; "{KNOWN}{line}\n")?;
+        let text = format!(in alloc; "refused: {why} at line 5\n{line}\n")?;
+        let (status, answer) = checked(alloc, MINIMUM, log.as_bytes(), 1_000_000, &[])?;
+        assert_eq!(rt; status, 1, "{line}");
+        assert_eq!(rt; answer.as_slice(), text.as_bytes(), "{line}");
+    }
+    Ok(())
+}
