@@ -1,15 +1,15 @@
 -- Annotations and what closes them, read one after the other.
-use Rattle.std.proofs.Common.{◌≡◌, ℕ, zero, suc, ◌<◌, Bool, true, false, if◌then◌else◌, ◌⊎◌, inl, inr, List, [], ◌∷◌, ◌++◌, length, Option, Some, None, refl, ap, subst, sym, ◌∙◌, arith, append_assoc}
+use Rattle.std.proofs.Common.{◌≡◌, ℕ, zero, suc, ◌<◌, Bool, true, false, if◌then◌else◌, ◌⊎◌, inl, inr, List, [], ◌∷◌, ◌++◌, length, Option, Some, None, refl, ap, sym, ◌∙◌, arith, append_assoc}
 use Rattle.dp_grammar.specs.Brackets.{Plain}
 use Rattle.dp_grammar.specs.Chain.{followed, mapped, chain, behind_mark}
 use Rattle.dp_grammar.specs.Choice.{IsLed, begins, either, read_either}
-use Rattle.dp_grammar.specs.Grammar.{Reading, Takes, Stops, Cause, IsLawful}
+use Rattle.dp_grammar.specs.Grammar.{Reading, Takes, Stops, IsLawful}
 use Rattle.dp_grammar.specs.Leaf.{valued, only}
 use Rattle.dp_grammar.specs.Many.{IsLink, linked, links, links_behind, with_item}
 use Rattle.dp_grammar.proofs.Chains.{chain_lawful, shaped_lawful, behind_mark_lawful}
 use Rattle.dp_grammar.proofs.Choices.{either_lawful}
 use Rattle.dp_grammar.proofs.Manys as manys
-use Rattle.fz_model.specs.Annotations.{Balanced, balanced, Annotation, Annotated, Close, LinkParts, Tail, annotated, annotation_link, link_of, link_parts, parts_of, parts_with, tail, with_tail}
+use Rattle.fz_model.specs.Annotations.{Balanced, balanced, Annotation, Close, LinkParts, Tail, annotated, annotation_link, link_of, link_parts, parts_of, parts_with, tail, with_tail}
 use Rattle.fz_model.specs.Literals.{name}
 use Rattle.fz_model.specs.Marks.{Production, is_stop, is_open, stop, opens}
 use Rattle.fz_model.specs.declared.fault.Fault.{Fault}
@@ -89,19 +89,19 @@ without_args bytes (Stops cause rest) = refl
 
 from_bracket : {C : Type 0} (close : Close C) (kept : List Annotation) (bytes : List ℕ) (r : Reading Word Fault Balanced)
     → mapped link_of (mapped (λ y. let p : LinkParts C = (bytes, y) in p) (mapped inl (followed r (λ args rest. mapped (λ y. let p : Balanced × Tail C = (args, y) in p) ((tail (close (after kept bytes (Some args)))).read rest)))))
-      ≡ followed (mapped (λ args. record { name = bytes; args = args }) (mapped (λ args. Some args) r)) (linked_to close kept)
+    ≡ followed (mapped (λ args. record { name = bytes; args = args }) (mapped (λ args. Some args) r)) (linked_to close kept)
 from_bracket close kept bytes (Takes args rest) = with_args bytes args ((tail (close (after kept bytes (Some args)))).read rest)
 from_bracket close kept bytes (Stops cause rest) = refl
 
 from_choice : {C : Type 0} (close : Close C) (kept : List Annotation) (bytes : List ℕ) (rest : List Word) (b : Bool)
     → mapped link_of (mapped (λ y. let p : LinkParts C = (bytes, y) in p) (read_either b (chain (behind_mark (opens Round) balanced) (λ args. tail (close (after kept bytes (Some args))))) (tail (close (after kept bytes None))) rest))
-      ≡ followed (mapped (λ args. record { name = bytes; args = args }) (note_args b rest)) (linked_to close kept)
+    ≡ followed (mapped (λ args. record { name = bytes; args = args }) (note_args b rest)) (linked_to close kept)
 from_choice close kept bytes rest true = from_bracket close kept bytes ((behind_mark (opens Round) balanced).read rest)
 from_choice close kept bytes rest false = without_args bytes ((tail (close (after kept bytes None))).read rest)
 
 from_name : {C : Type 0} (close : Close C) (kept : List Annotation) (r : Reading Word Fault (List ℕ))
     → mapped link_of (followed r (λ bytes rest. mapped (λ y. let p : LinkParts C = (bytes, y) in p) ((either (is_open Round) (chain (behind_mark (opens Round) balanced) (λ args. tail (close (after kept bytes (Some args))))) (tail (close (after kept bytes None)))).read rest)))
-      ≡ followed (followed r (λ bytes rest. mapped (λ args. record { name = bytes; args = args }) (note_args (begins (is_open Round) rest) rest))) (linked_to close kept)
+    ≡ followed (followed r (λ bytes rest. mapped (λ args. record { name = bytes; args = args }) (note_args (begins (is_open Round) rest) rest))) (linked_to close kept)
 from_name close kept (Takes bytes rest) = from_choice close kept bytes rest (begins (is_open Round) rest)
 from_name close kept (Stops cause rest) = refl
 

@@ -1,16 +1,14 @@
 -- The arguments of a constraint: a lawful list, its tests, and what it counts.
-use Rattle.std.proofs.Common.{◌≡◌, ℕ, ◌+◌, ◌<◌, ◌≤◌, ◌==◌, Bool, true, false, not, ◌&&◌, ◌⊎◌, inl, inr, List, [], ◌∷◌, ◌++◌, length, map, drop, get_or, Option, Some, None, ℤ, refl, sym, ap, subst, ◌∙◌, arith}
+use Rattle.std.proofs.Common.{◌≡◌, ℕ, ◌+◌, ◌<◌, ◌≤◌, ◌==◌, Bool, true, false, not, ◌&&◌, inl, inr, List, [], ◌∷◌, ◌++◌, length, map, drop, get_or, Option, refl, sym, ap, subst, ◌∙◌, arith}
 use Rattle.std.specs.Prelude.{sum, slice_get, nat_lt}
 use Rattle.std.specs.List.{list_all, list_any, filter_map, cons_option}
 use Rattle.std.proofs.lemmas.List.{length-map}
-use Rattle.fz_token.specs.declared.Keyword.TheVariants as key
-use Rattle.dp_grammar.specs.Brackets.{Plain, Closes}
-use Rattle.dp_grammar.specs.Choice.{IsLed, either}
+use Rattle.dp_grammar.specs.Brackets.{Closes}
+use Rattle.dp_grammar.specs.Choice.{IsLed}
 use Rattle.dp_grammar.specs.Listed.{IsListing}
 use Rattle.dp_grammar.proofs.Leaves.{tested_mark_lawful}
-use Rattle.fz_model.specs.Constraints.{ArgText, ArgTruth, ArgWhole, ArgName, ArgWords, all_equal, argument, array_length, behind, close_test, elements_in, is_dotted, pairs_arrays, range_arg, text_arg}
+use Rattle.fz_model.specs.Constraints.{ArgText, ArgTruth, ArgWhole, ArgName, ArgWords, all_equal, argument, array_length, behind, close_test, elements_in, pairs_arrays, text_arg}
 use Rattle.fz_model.specs.Context.{Context, with_elements}
-use Rattle.fz_model.specs.Items.{IntText}
 use Rattle.fz_model.specs.Limits.{or_else, refuse_if}
 use Rattle.fz_model.specs.Marks.{is_close}
 use Rattle.fz_model.specs.Table.{args_of, least_args}
@@ -96,11 +94,11 @@ pub behind_more : (context : Context) (kept : List words.ArgWords) (more : List 
     → more ≡ kept ++ a ∷ [] → with_elements (behind context (map arg_words kept)) (arg_count a) ≡ behind context (map arg_words more)
 behind_more context kept more a e =
     let counted : sum (map elements_in (map arg_words more)) ≡ sum (map elements_in (map arg_words kept)) + elements_in (arg_words a) =
-        ap (λ (xs : List words.ArgWords). sum (map elements_in (map arg_words xs))) e
-        ∙ ap (λ (xs : List ArgWords). sum (map elements_in xs)) (map-append arg_words kept (a ∷ []))
-        ∙ ap (λ (xs : List ℕ). sum xs) (map-append elements_in (map arg_words kept) (arg_words a ∷ []))
-        ∙ sum_by-append (λ n. n) (map elements_in (map arg_words kept)) (elements_in (arg_words a) ∷ [])
-        ∙ ap (λ (n : ℕ). sum (map elements_in (map arg_words kept)) + n) (one_sum (elements_in (arg_words a))) in
+    ap (λ (xs : List words.ArgWords). sum (map elements_in (map arg_words xs))) e
+    ∙ ap (λ (xs : List ArgWords). sum (map elements_in xs)) (map-append arg_words kept (a ∷ []))
+    ∙ ap (λ (xs : List ℕ). sum xs) (map-append elements_in (map arg_words kept) (arg_words a ∷ []))
+    ∙ sum_by-append (λ n. n) (map elements_in (map arg_words kept)) (elements_in (arg_words a) ∷ [])
+    ∙ ap (λ (n : ℕ). sum (map elements_in (map arg_words kept)) + n) (one_sum (elements_in (arg_words a))) in
     ap (λ (n : ℕ). record context { elements = n }) (omega (arith, counted, count_is a))
 
 -- ---- an argument of the list, and its close
@@ -141,6 +139,6 @@ pub close_reads : (context : Context) (kind : ConstraintKind) (kept slice : List
     → (tested_mark (is_close Round) (Closes Round) refused).read text ≡ r → ((args_listing context kind).close (map arg_words kept)).read text ≡ r
 close_reads context kind kept slice names refused text r n s f e =
     let refused_is : refused ≡ close_test context kind (map arg_words kept) =
-        f ∙ ap (λ (k : Context). close_test k kind (map arg_words slice)) n ∙ close_same context kind (map arg_words kept) (map arg_words slice)
-        ∙ ap (λ (xs : List words.ArgWords). close_test context kind (map arg_words xs)) s in
+    f ∙ ap (λ (k : Context). close_test k kind (map arg_words slice)) n ∙ close_same context kind (map arg_words kept) (map arg_words slice)
+    ∙ ap (λ (xs : List words.ArgWords). close_test context kind (map arg_words xs)) s in
     ap (λ (o : Option Fault). (tested_mark {F = Fault} (is_close Round) (Closes Round) o).read text) (sym refused_is) ∙ e

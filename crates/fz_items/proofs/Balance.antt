@@ -1,7 +1,7 @@
 -- One word behind open brackets.
-use Rattle.std.proofs.Common.{◌≡◌, ℕ, Bool, true, false, if◌then◌else◌, List, [], ◌∷◌, ◌++◌, map, reverse, refl, ap, subst, sym, ◌∙◌, ◌==◌, eq-eqb, Option, Some, None, MatchOption}
+use Rattle.std.proofs.Common.{◌≡◌, ℕ, Bool, true, false, if◌then◌else◌, List, [], ◌∷◌, ◌++◌, map, refl, ap, subst, sym, ◌∙◌, ◌==◌, eq-eqb, Option, Some, None, MatchOption}
 use Rattle.std.proofs.lemmas.List.{reverse-append}
-use Rattle.dp_grammar.specs.Brackets.{read_inside, Inside, Token, Open, Close, Opens as opening, Closes as closing}
+use Rattle.dp_grammar.specs.Brackets.{read_inside, Inside, Token, Open, Close, Closes as closing}
 use Rattle.dp_grammar.specs.Chain.{mapped}
 use Rattle.dp_grammar.specs.Grammar.{Reading, Takes, Stops, Syntax}
 use Rattle.fz_token.specs.declared.Mark.TheVariants as mark
@@ -10,8 +10,7 @@ use Rattle.fz_token.specs.declared.TokenKind.TheVariants as kind
 use Rattle.fz_model.specs.declared.fault.Fault.{Fault}
 use Rattle.fz_model.specs.Words.{Bracket, Round, Square, Curly, Word, PlainWord, Named, Key, Number, Float, Quoted, Stop, Comma, Semicolon, Colon, DoubleColon, Equals, DoubleDot, kind_word, bracketing, bracket_code}
 use Rattle.fz_items.specs.Notes.{bracket_of, brackets_of, class_of, closing_all, nothing_of, stepped, opened}
-use Rattle.fz_items.specs.declared.brackets.Class.{Class}
-use Rattle.fz_items.specs.declared.brackets.Class.TheVariants.{Plain, Opens, Closes}
+use Rattle.fz_items.specs.declared.brackets.Class.TheVariants.{Closes}
 use Rattle.fz_items.specs.declared.brackets.Shape.{Shape}
 use Rattle.fz_items.specs.declared.brackets.Shape.TheVariants as shape
 

@@ -1,5 +1,5 @@
 -- What stands behind annotations of which nothing is kept.
-use Rattle.std.proofs.Common.{◌≡◌, List, inl, inr, refl, sym, ap, ◌∙◌}
+use Rattle.std.proofs.Common.{◌≡◌, List, inl, inr, refl, ap, ◌∙◌}
 use Rattle.fz_token.specs.declared.Keyword.TheVariants as key
 use Rattle.dp_grammar.specs.Chain.{followed, mapped}
 use Rattle.dp_grammar.specs.Grammar.{Cause, Reading, Takes, Stops}

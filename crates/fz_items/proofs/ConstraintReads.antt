@@ -2,7 +2,7 @@
 use Rattle.std.proofs.Common.{◌≡◌, ℕ, List, length, refl, sym, ap, ◌∙◌}
 use Rattle.fz_token.specs.declared.Keyword.TheVariants as key
 use Rattle.dp_grammar.specs.Brackets.{Plain}
-use Rattle.dp_grammar.specs.Chain.{chain, followed, mapped}
+use Rattle.dp_grammar.specs.Chain.{followed, mapped}
 use Rattle.dp_grammar.specs.Grammar.{Cause, Reading, Takes, Stops}
 use Rattle.dp_grammar.specs.Leaf.{tested_mark}
 use Rattle.fz_model.specs.Annotations.{Annotated}
@@ -37,7 +37,7 @@ named_reads : (context : Context) (count : ℕ) (left after_key after_name : Lis
     → mapped named_args ((constraint_behind context count).read left) ≡ mapped (λ p. named bytes p.0) (args_and_end context kind after_name)
 named_reads context count left after_key after_name bytes kind k n e =
     let named_words : List Word → Reading Word Fault ConstraintWords =
-        λ text. followed ((name no_constraint).read text) (λ b rest. mapped (λ y. (b, y)) (args_and_end context (kind_named b) rest)) in
+    λ text. followed ((name no_constraint).read text) (λ b rest. mapped (λ y. (b, y)) (args_and_end context (kind_named b) rest)) in
     ap (λ (r : Reading Word Fault (Unit {0})). mapped named_args (mapped (λ p. p.1) (followed r (λ x rest. mapped (λ y. let p : Unit {0} × ConstraintWords = (x, y) in p) (named_words rest))))) k
     ∙ ap (λ (r : Reading Word Fault (List ℕ)). mapped named_args (mapped (λ p. p.1) (mapped (λ y. let p : Unit {0} × ConstraintWords = (tt, y) in p) (followed r (λ b rest. mapped (λ y. let c : ConstraintWords = (b, y) in c) (args_and_end context (kind_named b) rest)))))) n
     ∙ regrouped bytes (args_and_end context (kind_named bytes) after_name)

@@ -1,24 +1,23 @@
 -- What the code reads of arrays, variables and predicates is what the grammar reads of them.
-use Rattle.std.proofs.Common.{◌≡◌, ℕ, ◌+◌, Bool, true, false, if◌then◌else◌, ◌⊎◌, inl, inr, List, [], ◌∷◌, ◌++◌, length, map, Option, Some, None, ℤ, refl, ap, sym, ◌∙◌, add_assoc}
+use Rattle.std.proofs.Common.{◌≡◌, ℕ, ◌+◌, Bool, true, false, if◌then◌else◌, ◌⊎◌, inl, inr, List, [], ◌∷◌, ◌++◌, length, map, Option, Some, ℤ, refl, ap, sym, ◌∙◌, add_assoc}
 use Rattle.std.specs.Prelude.{codes}
 use Rattle.std.proofs.lemmas.List.{append-nil}
 use Rattle.fz_token.specs.declared.Keyword.TheVariants as key
 use Rattle.dp_grammar.specs.Chain.{followed, mapped, chain, behind_mark, before_mark}
 use Rattle.dp_grammar.specs.Choice.{begins, either, read_either}
-use Rattle.dp_grammar.specs.Grammar.{Reading, Takes, Stops, IsLawful}
+use Rattle.dp_grammar.specs.Grammar.{Reading, Takes, Stops}
 use Rattle.fz_model.specs.Annotations.{Annotation, Annotated, Balanced, Close, annotated, balanced}
-use Rattle.fz_model.specs.Arrays.{array_item, array_size, constant_element, constants, elements_end, is_bools, notes_test, size_test, variable_element, variables}
+use Rattle.fz_model.specs.Arrays.{array_item, array_size, constant_element, constants, elements_end, is_bools, size_test, variable_element, variables}
 use Rattle.fz_model.specs.Context.{Context, BasicText, Truth, Whole, Name, fresh, fresh_variable, with_elements}
-use Rattle.fz_model.specs.Items.{IntText, TypeWords, array_literal, bool_item, defined, domain_test, int_item, is_bool_type, parameter, set_item, truth, type_elements, variable_end, variable_item}
+use Rattle.fz_model.specs.Items.{IntText, TypeWords, array_literal, bool_item, domain_test, int_item, is_bool_type, parameter, set_item, truth, type_elements, variable_end, variable_item}
 use Rattle.fz_model.specs.Limits.{beyond_small, no_test}
 use Rattle.fz_model.specs.Literals.{integer, name, var_type}
 use Rattle.fz_model.specs.Marks.{Production, is_key, is_stop, keyword, opens, stop}
 use Rattle.dp_grammar.specs.Leaf.{tested_mark}
 use Rattle.dp_grammar.specs.Brackets.{Plain}
 use Rattle.fz_model.specs.ModelText.{ArrayWords, VariableWords, array_of, closing, declares, item, predicate_item}
-use Rattle.fz_model.specs.Models.{basic_of_text, count_variables, definition_of, elements_of, is_noted, name_of_item, notes_of, number_of, output_of, type_of}
+use Rattle.fz_model.specs.Models.{basic_of_text, definition_of, elements_of, is_noted, name_of_item, notes_of, number_of, output_of, type_of}
 use Rattle.fz_model.specs.declared.fault.Fault.{Fault}
-use Rattle.fz_model.specs.declared.meant.Meant.{Meant}
 use Rattle.fz_model.specs.declared.meant.Meant.TheVariants.{IntVar, BoolVar}
 use Rattle.fz_model.specs.declared.model.Basic.{Basic}
 use Rattle.fz_model.specs.declared.model.Item.{Item}
@@ -28,10 +27,10 @@ use Rattle.fz_model.proofs.AnnotationLaws.{IsClose}
 use Rattle.fz_model.proofs.ArrayLaws.{elements_end_lawful}
 use Rattle.fz_model.proofs.ItemLaws.{array_literal_lawful, no_args, no_second, variable_end_lawful}
 use Rattle.fz_names.specs.Counts.{with_variable}
-use Rattle.fz_items.specs.Arrays.{Shape, array_behind, array_head_of, array_test, elements_shut}
+use Rattle.fz_items.specs.Arrays.{Shape, array_behind, elements_shut}
 use Rattle.fz_items.specs.ItemReads.{array_told, item_told, predicate_read, vars_told}
 use Rattle.fz_items.specs.Notes.{Seen, closing_all, nothing_of, notes, seen_in, seen_of}
-use Rattle.fz_items.specs.Parameters.{array_head_read, consts_read, parameter_read, set_read}
+use Rattle.fz_items.specs.Parameters.{consts_read, parameter_read, set_read}
 use Rattle.fz_items.specs.Places.{basic_in, names_in}
 use Rattle.fz_items.specs.States.{State, bool_effect, consts_effect, int_effect, set_effect, definition_in, effect, shown_ranges, variable_effect, vars_effect, with_count}
 use Rattle.fz_items.specs.Variables.{Variable, variable_read}
@@ -97,7 +96,6 @@ closing_read {C} {Z} close is shut looks f g same text =
     ∙ followed_same (notes text) (λ seen rest. mapped g (mapped (λ c. let p : Seen × C = (seen, c) in p) ((shut seen).read rest))) (λ seen rest. mapped (λ c. g (seen, c)) ((shut seen).read rest))
     (λ seen rest. mapped_twice g (λ c. let p : Seen × C = (seen, c) in p) ((shut seen).read rest))
 
-
 -- ---- places
 
 basic_same : (items : List Item) (t : BasicText) → basic_in (map name_of_item items) t ≡ basic_of_text items t
@@ -131,7 +129,7 @@ const_array context size kind = array_literal (constant_element context (is_bool
 
 at_kind : (s : State) → names_in s.context ≡ map name_of_item s.items → (size : Bool × IntText) (r : Reading Word Fault (Unit {0} ⊎ Unit {0}))
     → mapped (λ p. effect s (inr (inr (inr (inr (inl (size, inr p))))))) (followed r (λ kind rest. mapped (λ y. let p : (Unit {0} ⊎ Unit {0}) × (List ℕ × Annotated (List BasicText)) = (kind, y) in p) ((parameter s.context (const_array s.context size.1 kind)).read rest)))
-      ≡ mapped (consts_effect s) (followed r (λ kind left. mapped (λ p. let q : Bool × (List ℕ × List BasicText) = (is_bools kind, p) in q) (parameter_read s.context (const_array s.context size.1 kind) left)))
+    ≡ mapped (consts_effect s) (followed r (λ kind left. mapped (λ p. let q : Bool × (List ℕ × List BasicText) = (is_bools kind, p) in q) (parameter_read s.context (const_array s.context size.1 kind) left)))
 at_kind s named size (Takes kind rest) =
     let f = λ (p : (Unit {0} ⊎ Unit {0}) × (List ℕ × Annotated (List BasicText))). effect s (inr (inr (inr (inr (inl (size, inr p)))))) in
     let g = const_array s.context size.1 kind in
@@ -139,7 +137,7 @@ at_kind s named size (Takes kind rest) =
     ∙ mapped_same (λ (y : List ℕ × Annotated (List BasicText)). f (kind, y)) (λ y. consts_effect s (is_bools kind, named_closing y)) ((parameter s.context g).read rest) (λ y. consts_state s named size (kind, y))
     ∙ sym (mapped_twice (λ (q : List ℕ × List BasicText). consts_effect s (is_bools kind, q)) named_closing ((parameter s.context g).read rest))
     ∙ ap (mapped (λ (q : List ℕ × List BasicText). consts_effect s (is_bools kind, q)))
-      (parameter_reads s.context g (defined_closes g (array_literal_lawful (constant_element s.context (is_bools kind)) (size_test size.1))) rest)
+    (parameter_reads s.context g (defined_closes g (array_literal_lawful (constant_element s.context (is_bools kind)) (size_test size.1))) rest)
     ∙ sym (mapped_twice (consts_effect s) (λ p. let q : Bool × (List ℕ × List BasicText) = (is_bools kind, p) in q) (parameter_read s.context g rest))
 at_kind s named size (Stops cause rest) = refl
 
@@ -174,7 +172,7 @@ elements_look context size type ns =
 
 vars_named : (s : State) → names_in s.context ≡ map name_of_item s.items → (size : Bool × IntText) (type : TypeWords) (r : Reading Word Fault (List ℕ))
     → mapped (λ y. effect s (inr (inr (inr (inr (inl (size, inl (type, y)))))))) (followed r (λ bytes rest. mapped (λ y. let p : List ℕ × Annotated (List BasicText) = (bytes, y) in p) ((annotated (elements_end (with_elements s.context (type_elements type)) size.1 type)).read rest)))
-      ≡ mapped (vars_effect (with_count s (type_elements type)) type) (followed r (λ bytes left. followed (notes left) (λ seen left. mapped (λ elements. let v : Shape = (bytes, (seen.array, elements)) in v) ((elements_shut (with_elements s.context (type_elements type)) size.1 type seen.array).read left))))
+    ≡ mapped (vars_effect (with_count s (type_elements type)) type) (followed r (λ bytes left. followed (notes left) (λ seen left. mapped (λ elements. let v : Shape = (bytes, (seen.array, elements)) in v) ((elements_shut (with_elements s.context (type_elements type)) size.1 type seen.array).read left))))
 vars_named s named size type (Takes bytes rest) =
     let context = with_elements s.context (type_elements type) in
     let f = λ (y : List ℕ × Annotated (List BasicText)). effect s (inr (inr (inr (inr (inl (size, inl (type, y))))))) in
@@ -182,20 +180,20 @@ vars_named s named size type (Takes bytes rest) =
     mapped_twice f (λ y. let p : List ℕ × Annotated (List BasicText) = (bytes, y) in p) ((annotated (elements_end context size.1 type)).read rest)
     ∙ closing_read (elements_end context size.1 type) (elements_close context size.1 type) (λ seen. elements_shut context size.1 type seen.array) (elements_look context size.1 type) (λ x. f (bytes, x)) (λ q. told (bytes, (q.0.array, q.1))) (λ x. vars_state s named size type bytes x) rest
     ∙ followed_same (notes rest) (λ seen rest. mapped (λ es. told (bytes, (seen.array, es))) ((elements_shut context size.1 type seen.array).read rest)) (λ seen rest. mapped told (mapped (λ elements. let v : Shape = (bytes, (seen.array, elements)) in v) ((elements_shut context size.1 type seen.array).read rest)))
-      (λ seen rest. sym (mapped_twice told (λ elements. let v : Shape = (bytes, (seen.array, elements)) in v) ((elements_shut context size.1 type seen.array).read rest)))
+    (λ seen rest. sym (mapped_twice told (λ elements. let v : Shape = (bytes, (seen.array, elements)) in v) ((elements_shut context size.1 type seen.array).read rest)))
     ∙ sym (mapped_followed told (notes rest) (λ seen left. mapped (λ elements. let v : Shape = (bytes, (seen.array, elements)) in v) ((elements_shut context size.1 type seen.array).read left)))
 vars_named s named size type (Stops cause rest) = refl
 
 vars_colon : (s : State) → names_in s.context ≡ map name_of_item s.items → (size : Bool × IntText) (type : TypeWords) (r : Reading Word Fault (Unit {0}))
     → mapped (λ y. effect s (inr (inr (inr (inr (inl (size, inl (type, y)))))))) (followed r (λ u rest. (chain (name (fresh s.context)) (λ bytes. annotated (elements_end (with_elements s.context (type_elements type)) size.1 type))).read rest))
-      ≡ mapped (vars_effect (with_count s (type_elements type)) type) (followed r (λ u left. followed ((name (fresh s.context)).read left) (λ bytes left. followed (notes left) (λ seen left. mapped (λ elements. let v : Shape = (bytes, (seen.array, elements)) in v) ((elements_shut (with_elements s.context (type_elements type)) size.1 type seen.array).read left)))))
+    ≡ mapped (vars_effect (with_count s (type_elements type)) type) (followed r (λ u left. followed ((name (fresh s.context)).read left) (λ bytes left. followed (notes left) (λ seen left. mapped (λ elements. let v : Shape = (bytes, (seen.array, elements)) in v) ((elements_shut (with_elements s.context (type_elements type)) size.1 type seen.array).read left)))))
 vars_colon s named size type (Takes u rest) = vars_named s named size type ((name (fresh s.context)).read rest)
 vars_colon s named size type (Stops cause rest) = refl
 
 vars_type : (s : State) → names_in s.context ≡ map name_of_item s.items → (size : Bool × IntText) (r : Reading Word Fault TypeWords)
     → mapped (λ a. effect s (inr (inr (inr (inr (inl (size, inl a))))))) (followed r (λ type rest. mapped (λ y. let p : TypeWords × (List ℕ × Annotated (List BasicText)) = (type, y) in p)
-        ((behind_mark (stop Colon) (chain (name (fresh s.context)) (λ bytes. annotated (elements_end (with_elements s.context (type_elements type)) size.1 type)))).read rest)))
-      ≡ followed r (λ type left. mapped (vars_effect (with_count s (type_elements type)) type) (array_behind (with_elements s.context (type_elements type)) size.1 type left))
+    ((behind_mark (stop Colon) (chain (name (fresh s.context)) (λ bytes. annotated (elements_end (with_elements s.context (type_elements type)) size.1 type)))).read rest)))
+    ≡ followed r (λ type left. mapped (vars_effect (with_count s (type_elements type)) type) (array_behind (with_elements s.context (type_elements type)) size.1 type left))
 vars_type s named size (Takes type rest) =
     let f = λ (a : TypeWords × (List ℕ × Annotated (List BasicText))). effect s (inr (inr (inr (inr (inl (size, inl a)))))) in
     let g = chain (name (fresh s.context)) (λ bytes. annotated (elements_end (with_elements s.context (type_elements type)) size.1 type)) in
@@ -209,7 +207,7 @@ var_array context size = chain (var_type (domain_test context) beyond_small) (λ
 
 vars_key : (s : State) → names_in s.context ≡ map name_of_item s.items → (size : Bool × IntText) (r : Reading Word Fault (Unit {0}))
     → mapped (λ a. effect s (inr (inr (inr (inr (inl (size, inl a))))))) (followed r (λ u rest. (var_array s.context size.1).read rest))
-      ≡ followed (followed r (λ u left. (var_type (domain_test s.context) beyond_small).read left)) (λ type left. mapped (vars_effect (with_count s (type_elements type)) type) (array_behind (with_elements s.context (type_elements type)) size.1 type left))
+    ≡ followed (followed r (λ u left. (var_type (domain_test s.context) beyond_small).read left)) (λ type left. mapped (vars_effect (with_count s (type_elements type)) type) (array_behind (with_elements s.context (type_elements type)) size.1 type left))
 vars_key s named size (Takes u rest) = vars_type s named size ((var_type (domain_test s.context) beyond_small).read rest)
 vars_key s named size (Stops cause rest) = refl
 
@@ -226,7 +224,7 @@ either_array context size = either (is_key key.Var) (variables context size) (co
 
 which_array : (s : State) → names_in s.context ≡ map name_of_item s.items → (size : Bool × IntText) (rest : List Word) (b : Bool)
     → mapped (λ a. effect s (inr (inr (inr (inr (inl (size, a))))))) (read_either b (variables s.context size.1) (constants s.context size.1) rest)
-      ≡ (if b then vars_told s size.1 rest else mapped (consts_effect s) (consts_read s.context size.1 rest))
+    ≡ (if b then vars_told s size.1 rest else mapped (consts_effect s) (consts_read s.context size.1 rest))
 which_array s named size rest true =
     mapped_twice (λ a. effect s (inr (inr (inr (inr (inl (size, a))))))) inl ((variables s.context size.1).read rest) ∙ vars_reads s named size rest
 which_array s named size rest false =
@@ -234,7 +232,7 @@ which_array s named size rest false =
 
 array_of_key : (s : State) → names_in s.context ≡ map name_of_item s.items → (size : Bool × IntText) (r : Reading Word Fault (Unit {0}))
     → mapped (λ a. effect s (inr (inr (inr (inr (inl a)))))) (mapped (λ y. let p : ArrayWords = (size, y) in p) (followed r (λ u rest. (either_array s.context size.1).read rest)))
-      ≡ followed (mapped (λ u. size) r) (λ size left. if begins (is_key key.Var) left then vars_told s size.1 left else mapped (consts_effect s) (consts_read s.context size.1 left))
+    ≡ followed (mapped (λ u. size) r) (λ size left. if begins (is_key key.Var) left then vars_told s size.1 left else mapped (consts_effect s) (consts_read s.context size.1 left))
 array_of_key s named size (Takes u rest) =
     mapped_twice (λ (a : ArrayWords). effect s (inr (inr (inr (inr (inl a)))))) (λ y. let p : ArrayWords = (size, y) in p) ((either_array s.context size.1).read rest)
     ∙ which_array s named size rest (begins (is_key key.Var) rest)
@@ -242,7 +240,7 @@ array_of_key s named size (Stops cause rest) = refl
 
 array_sized : (s : State) → names_in s.context ≡ map name_of_item s.items → (r : Reading Word Fault (Bool × IntText))
     → mapped (λ a. effect s (inr (inr (inr (inr (inl a)))))) (followed r (λ size rest. mapped (λ y. let p : ArrayWords = (size, y) in p) ((behind_mark (keyword key.Of) (either_array s.context size.1)).read rest)))
-      ≡ followed (followed r (λ size left. mapped (λ u. size) ((keyword key.Of).read left))) (λ size left. if begins (is_key key.Var) left then vars_told s size.1 left else mapped (consts_effect s) (consts_read s.context size.1 left))
+    ≡ followed (followed r (λ size left. mapped (λ u. size) ((keyword key.Of).read left))) (λ size left. if begins (is_key key.Var) left then vars_told s size.1 left else mapped (consts_effect s) (consts_read s.context size.1 left))
 array_sized s named (Takes size rest) =
     ap (λ (r : Reading Word Fault ((TypeWords × (List ℕ × Annotated (List BasicText))) ⊎ ((Unit {0} ⊎ Unit {0}) × (List ℕ × Annotated (List BasicText))))). mapped (λ (a : ArrayWords). effect s (inr (inr (inr (inr (inl a)))))) (mapped (λ y. let p : ArrayWords = (size, y) in p) r)) (behind_reads (keyword key.Of) (either_array s.context size.1) rest)
     ∙ array_of_key s named size ((keyword key.Of).read rest)
@@ -253,7 +251,7 @@ sized_array context = chain array_size (λ size. behind_mark (keyword key.Of) (e
 
 array_key : (s : State) → names_in s.context ≡ map name_of_item s.items → (r : Reading Word Fault (Unit {0}))
     → mapped (λ a. effect s (inr (inr (inr (inr (inl a)))))) (followed r (λ u rest. (sized_array s.context).read rest))
-      ≡ followed (followed r (λ u left. followed (array_size.read left) (λ size left. mapped (λ u. size) ((keyword key.Of).read left)))) (λ size left. if begins (is_key key.Var) left then vars_told s size.1 left else mapped (consts_effect s) (consts_read s.context size.1 left))
+    ≡ followed (followed r (λ u left. followed (array_size.read left) (λ size left. mapped (λ u. size) ((keyword key.Of).read left)))) (λ size left. if begins (is_key key.Var) left then vars_told s size.1 left else mapped (consts_effect s) (consts_read s.context size.1 left))
 array_key s named (Takes u rest) = array_sized s named (array_size.read rest)
 array_key s named (Stops cause rest) = refl
 
@@ -282,19 +280,19 @@ end_close context type = record { lawful = λ notes. variable_end_lawful context
 
 variable_named : (s : State) → names_in s.context ≡ map name_of_item s.items → (type : TypeWords) (r : Reading Word Fault (List ℕ))
     → mapped (λ y. effect s (inr (inr (inr (inr (inr (type, y))))))) (followed r (λ bytes rest. mapped (λ y. let p : List ℕ × Annotated (BasicText ⊎ Unit {0}) = (bytes, y) in p) ((annotated (λ notes. variable_end s.context type)).read rest)))
-      ≡ mapped (variable_effect s) (followed r (λ bytes left. followed (notes left) (λ seen left. mapped (λ value. let v : Variable = (type, (bytes, (seen.var, value))) in v) ((variable_end s.context type).read left))))
+    ≡ mapped (variable_effect s) (followed r (λ bytes left. followed (notes left) (λ seen left. mapped (λ value. let v : Variable = (type, (bytes, (seen.var, value))) in v) ((variable_end s.context type).read left))))
 variable_named s named type (Takes bytes rest) =
     let f = λ (y : List ℕ × Annotated (BasicText ⊎ Unit {0})). effect s (inr (inr (inr (inr (inr (type, y)))))) in
     mapped_twice f (λ y. let p : List ℕ × Annotated (BasicText ⊎ Unit {0}) = (bytes, y) in p) ((annotated (λ notes. variable_end s.context type)).read rest)
     ∙ closing_read (λ notes. variable_end s.context type) (end_close s.context type) (λ seen. variable_end s.context type) (λ ns. refl) (λ x. f (bytes, x)) (λ q. variable_effect s (type, (bytes, (q.0.var, q.1)))) (λ x. variable_state s named type bytes x) rest
     ∙ followed_same (notes rest) (λ seen rest. mapped (λ value. variable_effect s (type, (bytes, (seen.var, value)))) ((variable_end s.context type).read rest)) (λ seen rest. mapped (variable_effect s) (mapped (λ value. let v : Variable = (type, (bytes, (seen.var, value))) in v) ((variable_end s.context type).read rest)))
-      (λ seen rest. sym (mapped_twice (variable_effect s) (λ value. let v : Variable = (type, (bytes, (seen.var, value))) in v) ((variable_end s.context type).read rest)))
+    (λ seen rest. sym (mapped_twice (variable_effect s) (λ value. let v : Variable = (type, (bytes, (seen.var, value))) in v) ((variable_end s.context type).read rest)))
     ∙ sym (mapped_followed (variable_effect s) (notes rest) (λ seen left. mapped (λ value. let v : Variable = (type, (bytes, (seen.var, value))) in v) ((variable_end s.context type).read left)))
 variable_named s named type (Stops cause rest) = refl
 
 variable_colon : (s : State) → names_in s.context ≡ map name_of_item s.items → (type : TypeWords) (r : Reading Word Fault (Unit {0}))
     → mapped (λ y. effect s (inr (inr (inr (inr (inr (type, y))))))) (followed r (λ u rest. (chain (name (fresh_variable s.context)) (λ bytes. annotated (λ notes. variable_end s.context type))).read rest))
-      ≡ mapped (variable_effect s) (followed r (λ u left. followed ((name (fresh_variable s.context)).read left) (λ bytes left. followed (notes left) (λ seen left. mapped (λ value. let v : Variable = (type, (bytes, (seen.var, value))) in v) ((variable_end s.context type).read left)))))
+    ≡ mapped (variable_effect s) (followed r (λ u left. followed ((name (fresh_variable s.context)).read left) (λ bytes left. followed (notes left) (λ seen left. mapped (λ value. let v : Variable = (type, (bytes, (seen.var, value))) in v) ((variable_end s.context type).read left)))))
 variable_colon s named type (Takes u rest) = variable_named s named type ((name (fresh_variable s.context)).read rest)
 variable_colon s named type (Stops cause rest) = refl
 
@@ -303,7 +301,7 @@ typed_variable context type = chain (name (fresh_variable context)) (λ bytes. a
 
 variable_typed : (s : State) → names_in s.context ≡ map name_of_item s.items → (r : Reading Word Fault TypeWords)
     → mapped (λ v. effect s (inr (inr (inr (inr (inr v)))))) (followed r (λ type rest. mapped (λ y. let p : VariableWords = (type, y) in p) ((behind_mark (stop Colon) (typed_variable s.context type)).read rest)))
-      ≡ mapped (variable_effect s) (followed r (λ type left. followed ((stop Colon).read left) (λ u left. followed ((name (fresh_variable s.context)).read left) (λ bytes left. followed (notes left) (λ seen left. mapped (λ value. let v : Variable = (type, (bytes, (seen.var, value))) in v) ((variable_end s.context type).read left))))))
+    ≡ mapped (variable_effect s) (followed r (λ type left. followed ((stop Colon).read left) (λ u left. followed ((name (fresh_variable s.context)).read left) (λ bytes left. followed (notes left) (λ seen left. mapped (λ value. let v : Variable = (type, (bytes, (seen.var, value))) in v) ((variable_end s.context type).read left))))))
 variable_typed s named (Takes type rest) =
     let f = λ (v : VariableWords). effect s (inr (inr (inr (inr (inr v))))) in
     mapped_twice f (λ y. let p : VariableWords = (type, y) in p) ((behind_mark (stop Colon) (typed_variable s.context type)).read rest)
@@ -316,7 +314,7 @@ any_variable context = chain (var_type (domain_test context) beyond_small) (λ t
 
 variable_key : (s : State) → names_in s.context ≡ map name_of_item s.items → (r : Reading Word Fault (Unit {0}))
     → mapped (λ v. effect s (inr (inr (inr (inr (inr v)))))) (followed r (λ u rest. (any_variable s.context).read rest))
-      ≡ mapped (variable_effect s) (followed r (λ u left. followed ((var_type (domain_test s.context) beyond_small).read left) (λ type left. followed ((stop Colon).read left) (λ u left. followed ((name (fresh_variable s.context)).read left) (λ bytes left. followed (notes left) (λ seen left. mapped (λ value. let v : Variable = (type, (bytes, (seen.var, value))) in v) ((variable_end s.context type).read left)))))))
+    ≡ mapped (variable_effect s) (followed r (λ u left. followed ((var_type (domain_test s.context) beyond_small).read left) (λ type left. followed ((stop Colon).read left) (λ u left. followed ((name (fresh_variable s.context)).read left) (λ bytes left. followed (notes left) (λ seen left. mapped (λ value. let v : Variable = (type, (bytes, (seen.var, value))) in v) ((variable_end s.context type).read left)))))))
 variable_key s named (Takes u rest) = variable_typed s named ((var_type (domain_test s.context) beyond_small).read rest)
 variable_key s named (Stops cause rest) = refl
 
@@ -351,7 +349,7 @@ in_brackets = behind_mark (opens Round) (before_mark balanced (stop Semicolon))
 
 at_name : (s t : State) (r : Reading Word Fault (List ℕ)) → t ≡ s
     → mapped (λ (x : List ℕ × Balanced). t) (followed r (λ bytes rest. mapped (λ y. let p : List ℕ × Balanced = (bytes, y) in p) (in_brackets.read rest)))
-      ≡ mapped (λ u. s) (followed r (λ bytes left. followed ((opens Round).read left) (λ u left. followed (closing_all (Round ∷ []) left) (λ u left. (stop Semicolon).read left))))
+    ≡ mapped (λ u. s) (followed r (λ bytes left. followed ((opens Round).read left) (λ u left. followed (closing_all (Round ∷ []) left) (λ u left. (stop Semicolon).read left))))
 at_name s t (Takes bytes rest) e =
     mapped_twice (λ (x : List ℕ × Balanced). t) (λ y. let p : List ℕ × Balanced = (bytes, y) in p) (in_brackets.read rest)
     ∙ ap (mapped (λ (x : Balanced). t)) (behind_reads (opens Round) (before_mark balanced (stop Semicolon)) rest)
@@ -363,7 +361,7 @@ named_brackets = chain (name no_test) (λ bytes. in_brackets)
 
 at_predicate : (s t : State) (r : Reading Word Fault (Unit {0})) → t ≡ s
     → mapped (λ (x : List ℕ × Balanced). t) (followed r (λ u rest. named_brackets.read rest))
-      ≡ mapped (λ u. s) (followed r (λ u left. followed ((name no_test).read left) (λ bytes left. followed ((opens Round).read left) (λ u left. followed (closing_all (Round ∷ []) left) (λ u left. (stop Semicolon).read left)))))
+    ≡ mapped (λ u. s) (followed r (λ u left. followed ((name no_test).read left) (λ bytes left. followed ((opens Round).read left) (λ u left. followed (closing_all (Round ∷ []) left) (λ u left. (stop Semicolon).read left)))))
 at_predicate s t (Takes u rest) e = at_name s t ((name no_test).read rest) e
 at_predicate s t (Stops cause rest) e = refl
 
@@ -407,7 +405,7 @@ by_set s named text false p i o b =
 
 by_bool : (s : State) → names_in s.context ≡ map name_of_item s.items → (text : List Word) (b : Bool) → begins (is_key key.Predicate) text ≡ false → begins (is_key key.Int) text ≡ false → begins (is_key key.Bool) text ≡ b
     → mapped (effect s) ((item s.context).read text) ≡ (if b then mapped (bool_effect s) (followed ((keyword key.Bool).read text) (λ u left. parameter_read s.context truth left))
-      else (if begins (is_key key.Set) text then mapped (set_effect s) (set_read s.context text) else (if begins (is_key key.Array) text then array_told s text else mapped (variable_effect s) (variable_read s.context text))))
+    else (if begins (is_key key.Set) text then mapped (set_effect s) (set_read s.context text) else (if begins (is_key key.Array) text then array_told s text else mapped (variable_effect s) (variable_read s.context text))))
 by_bool s named text true p i b = bool_item_reads s text p i b
 by_bool s named text false p i b = by_set s named text (begins (is_key key.Set) text) p i b refl
 

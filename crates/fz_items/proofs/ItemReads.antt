@@ -62,14 +62,14 @@ at_notes g bytes (Stops cause rest) = refl
 
 at_name : {C : Type 0} (g : Production C) → IsClose (λ notes. defined g) → (r : Reading Word Fault (List ℕ))
     → mapped named_closing (followed r (λ bytes left. mapped (λ y. let p : List ℕ × Annotated C = (bytes, y) in p) ((annotated (λ notes. defined g)).read left)))
-      ≡ followed (followed r (λ bytes left. followed (notes left) (λ seen left. mapped (λ u. bytes) ((stop Equals).read left)))) (value_at g)
+    ≡ followed (followed r (λ bytes left. followed (notes left) (λ seen left. mapped (λ u. bytes) ((stop Equals).read left)))) (value_at g)
 at_name g is (Takes bytes left) =
     pair_closing bytes ((annotated (λ notes. defined g)).read left) ∙ ap (mapped (named bytes)) (closed_reads (defined g) is left) ∙ at_notes g bytes (notes left)
 at_name g is (Stops cause rest) = refl
 
 at_colon : {C : Type 0} (context : Context) (g : Production C) → IsClose (λ notes. defined g) → (r : Reading Word Fault (Unit {0}))
     → mapped named_closing (followed r (λ u left. (chain (name (fresh context)) (λ bytes. annotated (λ notes. defined g))).read left))
-      ≡ followed (followed r (λ u left. followed ((name (fresh context)).read left) (λ bytes left. followed (notes left) (λ seen left. mapped (λ u. bytes) ((stop Equals).read left))))) (value_at g)
+    ≡ followed (followed r (λ u left. followed ((name (fresh context)).read left) (λ bytes left. followed (notes left) (λ seen left. mapped (λ u. bytes) ((stop Equals).read left))))) (value_at g)
 at_colon context g is (Takes u left) = at_name g is ((name (fresh context)).read left)
 at_colon context g is (Stops cause rest) = refl
 

@@ -1,5 +1,5 @@
 -- The lists of models are lawful lists.
-use Rattle.std.proofs.Common.{List, length, Option, refl}
+use Rattle.std.proofs.Common.{length, Option, refl}
 use Rattle.dp_grammar.specs.Brackets.{Closes}
 use Rattle.dp_grammar.specs.Listed.{IsListing}
 use Rattle.fz_model.specs.Context.{Context}

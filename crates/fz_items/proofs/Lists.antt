@@ -1,5 +1,5 @@
 -- What a loop that reads a list keeps: the list is read as the items so far and what is read behind them.
-use Rattle.std.proofs.Common.{◌≡◌, ℕ, ◌+◌, ◌<◌, ◌≤◌, ◌||◌, Bool, true, false, inl, inr, List, [], ◌∷◌, ◌++◌, length, Some, None, if◌then◌else◌, map, refl, sym, ap, subst, ◌∙◌, arith, length-append}
+use Rattle.std.proofs.Common.{◌≡◌, ℕ, ◌+◌, ◌<◌, ◌≤◌, ◌||◌, Bool, true, false, inr, List, [], ◌∷◌, ◌++◌, length, Some, None, if◌then◌else◌, map, refl, sym, ap, subst, ◌∙◌, arith, length-append}
 use Rattle.std.specs.List.{list_any}
 use Rattle.std.proofs.lemmas.List.{map-append}
 use Rattle.dp_grammar.specs.Grammar.{Cause, Reading, Takes, Stops, Grammar}
@@ -74,9 +74,9 @@ listed_more {T} {F} {X} l is total kept text x rest b e h =
       more = h.more ++ x ∷ [];
       kept_is = ap (λ (xs : List X). xs ++ x ∷ []) h.kept_is;
       so_far = ap (λ (r : Reading T F (List X × Unit {0})). mapped (λ p. h.first ∷ p.0) r)
-        (item_taken (further l h.first) (further_is l is h.first) h.more text (with_front h.more (behind_items (further l h.first) h.more text)) x rest b
-        (separated l.is_separator l.separator (l.item (h.first ∷ h.more)) text (Takes x rest) b item) refl)
-      ∙ h.so_far;
+          (item_taken (further l h.first) (further_is l is h.first) h.more text (with_front h.more (behind_items (further l h.first) h.more text)) x rest b
+          (separated l.is_separator l.separator (l.item (h.first ∷ h.more)) text (Takes x rest) b item) refl)
+          ∙ h.so_far;
     }
 
 pub listed_refused : {T F X : Type 0} (l : Listing T F X) → IsListing l → (total : Reading T F (List X)) (kept : List X) (text : List T) (cause : Cause F) (rest : List T)

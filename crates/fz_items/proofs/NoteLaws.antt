@@ -1,5 +1,5 @@
 -- Annotations, one after another.
-use Rattle.std.proofs.Common.{◌≡◌, ℕ, zero, suc, ◌<◌, ◌≤◌, Bool, true, false, if◌then◌else◌, List, [], ◌∷◌, ◌++◌, length, Option, Some, None, refl, ap, subst, sym, ◌∙◌, arith, length-append}
+use Rattle.std.proofs.Common.{◌≡◌, ℕ, zero, suc, ◌<◌, ◌≤◌, Bool, true, false, if◌then◌else◌, List, [], ◌∷◌, length, Option, Some, None, refl, ap, subst, sym, ◌∙◌, arith, length-append}
 use Rattle.dp_grammar.specs.Chain.{followed, mapped, behind_mark}
 use Rattle.dp_grammar.specs.Choice.{begins}
 use Rattle.dp_grammar.specs.Grammar.{Cause, Reading, Takes, Stops, Tells, IsLawful}

@@ -1,7 +1,7 @@
 -- The ranges of `output_array`: what is read of them, and what stands in the brackets around them.
-use Rattle.std.proofs.Common.{◌≡◌, ℕ, ◌==◌, Bool, true, false, if◌then◌else◌, List, [], ◌∷◌, ◌++◌, Option, Some, None, Result, Ok, Err, refl, ap, subst, sym, ◌∙◌}
+use Rattle.std.proofs.Common.{◌≡◌, ◌==◌, Bool, true, false, if◌then◌else◌, List, [], ◌∷◌, ◌++◌, Option, Some, None, Result, Ok, Err, refl, ap, subst, sym, ◌∙◌}
 use Rattle.std.proofs.lemmas.List.{append-nil, append_cancel_right}
-use Rattle.dp_grammar.specs.Brackets.{Plain, Opens, Closes, Inside, Token, Open, Close, read_inside, spell_inside}
+use Rattle.dp_grammar.specs.Brackets.{Plain, Opens, Closes, Token, Open, Close, read_inside, spell_inside}
 use Rattle.dp_grammar.specs.Choice.{begins}
 use Rattle.dp_grammar.specs.Chain.{followed, mapped, chain, behind_mark}
 use Rattle.dp_grammar.specs.Grammar.{Cause, Syntax, Reading, Takes, Stops, Tells, IsLawful, verdict}
@@ -26,7 +26,7 @@ use Rattle.fz_items.specs.Literals.{range_of}
 use Rattle.fz_items.specs.Standing.{behind}
 use Rattle.fz_items.specs.declared.stop.Cause as code
 use Rattle.fz_items.specs.declared.text.Number.{Number as NumberText}
-use Rattle.fz_items.specs.Notes.{args_ranges, closing_all, nothing_of, range_listing, ranges_in, seen_args}
+use Rattle.fz_items.specs.Notes.{closing_all, nothing_of, range_listing, ranges_in, seen_args}
 use Rattle.fz_items.proofs.Balance.{forgotten}
 use Rattle.fz_items.proofs.Listings.{range_listing_is}
 
@@ -109,7 +109,7 @@ no_ranges text args rest cause left stops parts (Takes ranges []) e =
     let tell = subst (Tells output_ranges args) e (ranges_lawful.tells args) in
     let whole_args : args ≡ output_ranges.spell ranges = tell.0 ∙ append-nil (output_ranges.spell ranges) in
     let takes : output_ranges.read text ≡ Takes ranges rest =
-      ap output_ranges.read (parts ∙ ap (λ (ws : List Word). ws ++ rest) whole_args) ∙ ranges_lawful.again ranges rest ∙ ap (λ (o : Option (Fault × List Word)). verdict o ranges rest) tell.1 in
+    ap output_ranges.read (parts ∙ ap (λ (ws : List Word). ws ++ rest) whole_args) ∙ ranges_lawful.again ranges rest ∙ ap (λ (o : Option (Fault × List Word)). verdict o ranges rest) tell.1 in
     absurd (let both : Takes ranges rest ≡ Stops cause left = sym takes ∙ stops in cc)
 
 -- where they are none, nothing is kept of the arguments
@@ -130,7 +130,7 @@ ranges_taken text ranges rest takes (Takes args left) e closes =
     let inside = subst (Tells balanced text) e (balanced_lawful.tells text) in
     let tell = subst (Tells output_ranges text) takes (ranges_lawful.tells text) in
     let args_are : output_ranges.spell ranges ≡ spell_inside bracketing (Round ∷ []) args =
-      append_cancel_right (output_ranges.spell ranges) (spell_inside bracketing (Round ∷ []) args) rest (sym tell.0 ∙ inside.0 ∙ ap (λ (ws : List Word). spell_inside bracketing (Round ∷ []) args ++ ws) same) in
+    append_cancel_right (output_ranges.spell ranges) (spell_inside bracketing (Round ∷ []) args) rest (sym tell.0 ∙ inside.0 ∙ ap (λ (ws : List Word). spell_inside bracketing (Round ∷ []) args ++ ws) same) in
     ap (λ (r : Reading Word Fault (List (IntText × IntText))). Takes (ranges_in (finished r)) left)
     (alone output_ranges ranges_lawful ranges (spell_inside bracketing (Round ∷ []) args) args_are ∙ ap (λ (o : Option (Fault × List Word)). verdict o ranges []) tell.1)
     ∙ ap (λ (ws : List Word). Takes (Some ranges) ws) same

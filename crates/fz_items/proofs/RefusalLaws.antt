@@ -1,5 +1,5 @@
 -- Where a text is refused, and what stands before that place.
-use Rattle.std.proofs.Common.{◌≡◌, ℕ, ◌+◌, ◌-◌, Bool, true, false, if◌then◌else◌, ◌||◌, ◌&&◌, List, [], ◌∷◌, ◌++◌, length, take, drop, Option, Some, None, Result, Ok, Err, refl, sym, ap, subst, ◌∙◌, arith, append_assoc, length-append}
+use Rattle.std.proofs.Common.{◌≡◌, ℕ, ◌-◌, Bool, true, false, if◌then◌else◌, ◌||◌, ◌&&◌, List, [], ◌∷◌, ◌++◌, length, take, drop, Option, Some, None, Result, Ok, Err, refl, sym, ap, subst, ◌∙◌, arith, append_assoc, length-append}
 use Rattle.std.specs.Prelude.{option_map, slice_get, suc}
 use Rattle.std.specs.Option.{option_map_or}
 use Rattle.std.proofs.Math.Seq.{drop-append_seam, take-append_seam}
@@ -31,14 +31,14 @@ length_words text (token ∷ tokens) = ap (λ (n : ℕ). suc n) (length_words te
 last_tokens : (text : List ℕ) (left : Stream) → IsLeft text left → drop (length (stream text).tokens - length (words text left.tokens)) (stream text).tokens ≡ left.tokens
 last_tokens text left h =
     let size : length (stream text).tokens - length (words text left.tokens) ≡ length h.front =
-        omega (arith, ap length h.parts, length-append h.front left.tokens, length_words text left.tokens) in
+    omega (arith, ap length h.parts, length-append h.front left.tokens, length_words text left.tokens) in
     ap (λ (n : ℕ). drop n (stream text).tokens) size ∙ ap (λ (ts : List Token). drop (length h.front) ts) h.parts ∙ drop-append_seam h.front left.tokens
 
 pub place_at : (text : List ℕ) (left : Stream) (token : Token) (rest : List Token) → IsLeft text left → left.tokens ≡ token ∷ rest
     → here (length text) (stream text) (words text left.tokens) ≡ Ok token.start
 place_at text left token rest h e =
     let last : drop (length (stream text).tokens - length (words text (token ∷ rest))) (stream text).tokens ≡ token ∷ rest =
-        subst (λ (ts : List Token). drop (length (stream text).tokens - length (words text ts)) (stream text).tokens ≡ ts) e (last_tokens text left h) in
+    subst (λ (ts : List Token). drop (length (stream text).tokens - length (words text ts)) (stream text).tokens ≡ ts) e (last_tokens text left h) in
     ap (λ (ts : List Token). here (length text) (stream text) (words text ts)) e
     ∙ ap (λ (ts : List Token). let r : Result ℕ TokenRefusal = Ok (place_of_first (length text) ts) in r) last
 
@@ -89,9 +89,9 @@ words_split text (token ∷ front) behind =
 
 front_split : (text : List ℕ) (more : List Token) (other token : Token) (behind : List Token)
     → words_front text (more ++ other ∷ token ∷ []) behind
-      ≡ words_front text more (other ∷ token ∷ behind)
-        ++ kind_word (take (other.end - other.start) (drop other.start text)) (begins_dotted (token ∷ behind)) other.kind
-        ∷ kind_word (take (token.end - token.start) (drop token.start text)) (begins_dotted behind) token.kind ∷ []
+    ≡ words_front text more (other ∷ token ∷ behind)
+    ++ kind_word (take (other.end - other.start) (drop other.start text)) (begins_dotted (token ∷ behind)) other.kind
+    ∷ kind_word (take (token.end - token.start) (drop token.start text)) (begins_dotted behind) token.kind ∷ []
 unfolding words_front
 front_split text [] other token behind = refl
 front_split text (t ∷ more) other token behind =
@@ -172,7 +172,7 @@ by_ending text front behind (Some last) None bytes dotted k (token, e, is) =
     let w = seen_word text token (begins_dotted behind) in
     let b = take (token.end - token.start) (drop token.start text) in
     let key_is : (keyword : Keyword) → is_key keyword w ≡ is_key keyword (bare last) =
-        λ keyword. key_bare b (begins_dotted behind) keyword token.kind ∙ ap (λ (j : TokenKind). is_key keyword (bare j)) is in
+    λ keyword. key_bare b (begins_dotted behind) keyword token.kind ∙ ap (λ (j : TokenKind). is_key keyword (bare j)) is in
     ap (λ (ts : List Token). is_unsupported (words_front text ts behind) (kind_word bytes dotted k)) e
     ∙ by_kind (w ∷ []) bytes dotted k (Some last) None (key_is key.Var) (of_no_close w ∙ ap (λ (x : Bool). x && false) (key_is key.Of))
 by_ending text front behind (Some last) (Some earlier) bytes dotted k (more, other, token, e, is_other, is) =
@@ -181,11 +181,11 @@ by_ending text front behind (Some last) (Some earlier) bytes dotted k (more, oth
     let front_is : words_front text (more ++ other ∷ token ∷ []) behind ≡ words_front text more (other ∷ token ∷ behind) ++ v ∷ w ∷ [] = front_split text more other token behind in
     let before = words_front text more (other ∷ token ∷ behind) in
     let key_is : (keyword : Keyword) → is_word (is_key keyword) (word_before 1 (before ++ v ∷ w ∷ [])) ≡ is_key keyword (bare last) =
-        λ keyword. ap (is_word (is_key keyword)) (last_word before v w)
-            ∙ key_bare (take (token.end - token.start) (drop token.start text)) (begins_dotted behind) keyword token.kind ∙ ap (λ (j : TokenKind). is_key keyword (bare j)) is in
+    λ keyword. ap (is_word (is_key keyword)) (last_word before v w)
+    ∙ key_bare (take (token.end - token.start) (drop token.start text)) (begins_dotted behind) keyword token.kind ∙ ap (λ (j : TokenKind). is_key keyword (bare j)) is in
     let close_is : is_word is_square_close (word_before 2 (before ++ v ∷ w ∷ [])) ≡ is_square_close (bare earlier) =
-        ap (is_word is_square_close) (earlier_word before v w)
-        ∙ close_bare (take (other.end - other.start) (drop other.start text)) (begins_dotted (token ∷ behind)) other.kind ∙ ap (λ (j : TokenKind). is_square_close (bare j)) is_other in
+    ap (is_word is_square_close) (earlier_word before v w)
+    ∙ close_bare (take (other.end - other.start) (drop other.start text)) (begins_dotted (token ∷ behind)) other.kind ∙ ap (λ (j : TokenKind). is_square_close (bare j)) is_other in
     ap (λ (ts : List Token). is_unsupported (words_front text ts behind) (kind_word bytes dotted k)) e
     ∙ ap (λ (ws : List Word). is_unsupported ws (kind_word bytes dotted k)) front_is
     ∙ by_kind (before ++ v ∷ w ∷ []) bytes dotted k (Some last) (Some earlier) (key_is key.Var)
@@ -200,7 +200,7 @@ unsupported_is text left last earlier bytes dotted k rest h e =
     let split : all ≡ words_front text h.front left.tokens ++ words text left.tokens = ap (words text) h.parts ∙ words_split text h.front left.tokens in
     let front : take (length all - length (words text left.tokens)) all ≡ words_front text h.front left.tokens = before_left all (words_front text h.front left.tokens) (words text left.tokens) split in
     let at_word : take (length all - length (kind_word bytes dotted k ∷ rest)) all ≡ words_front text h.front left.tokens =
-        subst (λ (ws : List Word). take (length all - length ws) all ≡ words_front text h.front left.tokens) e front in
+    subst (λ (ws : List Word). take (length all - length ws) all ≡ words_front text h.front left.tokens) e front in
     ap (unsupported_at all) e
     ∙ ap (λ (ws : List Word). is_unsupported ws (kind_word bytes dotted k)) at_word
     ∙ by_ending text h.front left.tokens last earlier bytes dotted k h.ending

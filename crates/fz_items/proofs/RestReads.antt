@@ -1,5 +1,5 @@
 -- The constraints so far, and what is read behind them.
-use Rattle.std.proofs.Common.{◌≡◌, ℕ, ◌+◌, ◌<◌, true, false, List, [], ◌∷◌, ◌++◌, length, map, refl, sym, ap, subst, ◌∙◌, arith}
+use Rattle.std.proofs.Common.{◌≡◌, ℕ, ◌+◌, ◌<◌, true, false, List, [], ◌∷◌, ◌++◌, length, map, sym, ap, subst, ◌∙◌, arith}
 use Rattle.std.specs.Prelude.{sum}
 use Rattle.std.proofs.lemmas.List.{length-map, map-append}
 use Rattle.std.proofs.lemmas.List.Sums.{sum_by-append}
@@ -7,13 +7,12 @@ use Rattle.fz_token.specs.declared.Keyword.TheVariants as key
 use Rattle.dp_grammar.specs.Chain.{mapped}
 use Rattle.dp_grammar.specs.Choice.{begins}
 use Rattle.dp_grammar.specs.Grammar.{Cause, Reading, Takes, Stops}
-use Rattle.dp_grammar.specs.Many.{links_behind}
 use Rattle.dp_grammar.proofs.Loops.{with_front, no_front, behind_items, item_taken, item_refused, close_taken, close_refused, item_shortens}
 use Rattle.fz_model.specs.Annotations.{Annotated}
 use Rattle.fz_model.specs.Constraints.{ConstraintWords, behind, behind_constraints, constraint_item, elements_in}
 use Rattle.fz_model.specs.Context.{Context}
 use Rattle.fz_model.specs.Marks.{is_key}
-use Rattle.fz_model.specs.ModelText.{GoalWords, Rest, rest_of, solve_item}
+use Rattle.fz_model.specs.ModelText.{GoalWords, rest_of, solve_item}
 use Rattle.fz_model.specs.Words.{Word}
 use Rattle.fz_model.specs.declared.fault.Fault.{Fault}
 use Rattle.fz_model.specs.declared.model.Constraint.{Constraint}
@@ -69,9 +68,9 @@ one_sum n = omega arith
 one_counted : (context : Context) (kept : List ConstraintWords) (c : ConstraintWords) → behind (behind_constraints context kept) c.1.0 ≡ behind_constraints context (kept ++ c ∷ [])
 one_counted context kept c =
     let counted : sum (map count_in (kept ++ c ∷ [])) ≡ sum (map count_in kept) + count_in c =
-        ap (λ (ns : List ℕ). sum ns) (map-append count_in kept (c ∷ []))
-        ∙ sum_by-append (λ n. n) (map count_in kept) (count_in c ∷ [])
-        ∙ ap (λ (n : ℕ). sum (map count_in kept) + n) (one_sum (count_in c)) in
+    ap (λ (ns : List ℕ). sum ns) (map-append count_in kept (c ∷ []))
+    ∙ sum_by-append (λ n. n) (map count_in kept) (count_in c ∷ [])
+    ∙ ap (λ (n : ℕ). sum (map count_in kept) + n) (one_sum (count_in c)) in
     ap (λ (n : ℕ). record context { elements = n }) (omega (arith, counted))
 
 -- the next constraint is read behind them
@@ -94,10 +93,10 @@ one_kept context text constraints more names after count left rest c m k b e h =
     record {
       kept = h.kept ++ from.value ∷ [];
       so_far = item_taken (constraints_of context) (constraints_are context) h.kept left ((rest_of context).read text) from.value rest b
-        (item_reads context h.kept constraints names count left (Takes from.value rest) h.placed h.counted k from.reads) h.so_far;
+          (item_reads context h.kept constraints names count left (Takes from.value rest) h.placed h.counted k from.reads) h.so_far;
       placed = m ∙ ap (λ (x : Constraint). constraints ++ x ∷ []) (sym placed ∙ ap (λ (n : Context). constraint_in (names_in n) from.value) h.counted)
-        ∙ ap (λ (xs : List Constraint). xs ++ constraint_in (names_in context) from.value ∷ []) h.placed
-        ∙ sym (map-append (constraint_in (names_in context)) h.kept (from.value ∷ []));
+          ∙ ap (λ (xs : List Constraint). xs ++ constraint_in (names_in context) from.value ∷ []) h.placed
+          ∙ sym (map-append (constraint_in (names_in context)) h.kept (from.value ∷ []));
       counted = sym counted ∙ ap (λ (n : Context). behind n from.value.1.0) h.counted ∙ one_counted context h.kept from.value;
     }
 
@@ -140,8 +139,8 @@ kept_closed context text constraints names left rest g b e h =
     let from = taken_from (closing_goal (names_in names)) ((solve_item names).read left) g rest e in
     let goal : closing_goal (names_in context) from.value ≡ g = ap (λ (c : Context). closing_goal (names_in c) from.value) (sym h.counted) ∙ from.seen in
     let total : (rest_of context).read text ≡ Takes (h.kept, from.value) rest =
-        close_taken (constraints_of context) (constraints_are context) h.kept left ((rest_of context).read text) from.value rest b
-        (solve_reads context h.kept names left (Takes from.value rest) h.counted from.reads) h.so_far in
+    close_taken (constraints_of context) (constraints_are context) h.kept left ((rest_of context).read text) from.value rest b
+    (solve_reads context h.kept names left (Takes from.value rest) h.counted from.reads) h.so_far in
     ap (mapped (rest_in (names_in context))) total
     ∙ closed_as (map (constraint_in (names_in context)) h.kept) constraints (closing_goal (names_in context) from.value) g rest (sym h.placed) goal
 

@@ -1,7 +1,6 @@
 -- What is seen of annotations is what the model keeps of them.
-use Rattle.std.proofs.Common.{◌≡◌, ℕ, ◌||◌, ◌&&◌, Bool, true, false, cond, if◌then◌else◌, not, List, [], ◌∷◌, ◌++◌, map, Option, Some, None, Result, Ok, Err, ℤ, refl, ap, sym, ◌∙◌}
-use Rattle.std.specs.Prelude.{is_none, option_map, bytes_eq, codes, find}
-use Rattle.std.specs.List.{list_any}
+use Rattle.std.proofs.Common.{◌≡◌, ℕ, ◌||◌, Bool, true, false, cond, if◌then◌else◌, not, List, [], ◌∷◌, Option, Some, None, Result, Ok, Err, refl, ap, sym, ◌∙◌}
+use Rattle.std.specs.Prelude.{option_map, bytes_eq, codes, find}
 use Rattle.std.specs.Option.{option_map_or}
 use Rattle.dp_grammar.specs.Brackets.{spell_inside}
 use Rattle.dp_grammar.specs.Grammar.{Cause}
@@ -16,8 +15,8 @@ use Rattle.fz_model.specs.declared.fault.Fault.{Fault}
 use Rattle.fz_model.specs.declared.fault.Fault.TheVariants.{Kind}
 use Rattle.fz_model.specs.Words.{Round, Word, bracketing}
 use Rattle.fz_items.specs.Arrays.{array_test, elements_fit}
-use Rattle.fz_items.specs.Notes.{Seen, add_note, args_ranges, ranges_in, seen_behind, seen_in, with_note}
-use Rattle.fz_items.specs.States.{bounds_of, shown_ranges}
+use Rattle.fz_items.specs.Notes.{Seen, add_note, args_ranges, ranges_in, seen_behind, seen_in}
+use Rattle.fz_items.specs.States.{shown_ranges}
 
 or_false : (a : Bool) → a ≡ (a || false)
 or_false true = refl

@@ -1,7 +1,7 @@
 -- Words are what tokens stand for.
-use Rattle.std.proofs.Common.{◌≡◌, ◌≢◌, ℕ, ◌+◌, ◌-◌, ◌^◌, ◌≤◌, Bool, true, false, not, ◌||◌, ◌&&◌, ◌==◌, List, [], ◌∷◌, map, length, take, drop, get_or, nat_lt, inl, inr, Result, Ok, Err, refl, sym, ap, subst, ◌∙◌, arith}
-use Rattle.std.specs.Prelude.{bytes_eq, nat_abs, slice_index, codes}
-use Rattle.std.specs.List.{AllPass, list_all, list_any}
+use Rattle.std.proofs.Common.{◌≡◌, ◌≢◌, ℕ, ◌+◌, ◌-◌, ◌^◌, ◌≤◌, Bool, true, false, not, ◌||◌, ◌&&◌, List, [], ◌∷◌, map, take, drop, nat_lt, inl, inr, Result, Ok, Err, refl, sym, ap, subst, ◌∙◌, arith}
+use Rattle.std.specs.Prelude.{bytes_eq, nat_abs, slice_index}
+use Rattle.std.specs.List.{list_all, list_any}
 use Rattle.std.proofs.lemmas.Bool.{cases_Bool}
 use Rattle.std.proofs.lemmas.List.{drop-drop}
 use Rattle.std.proofs.lemmas.List.Sums.{list_all-from_AllPass}
@@ -21,7 +21,7 @@ use Rattle.fz_token.specs.declared.TokenKind.{TokenKind}
 use Rattle.fz_token.specs.declared.TokenKind.TheVariants as kind
 use Rattle.fz_token.specs.declared.TokenRefusal.{TokenRefusal}
 use Rattle.fz_token.proofs.TokenForms.{token_says}
-use Rattle.fz_model.specs.Words.{IsSpelled, Word, begins_dotted, kind_word, mark_word, words}
+use Rattle.fz_model.specs.Words.{IsSpelled, begins_dotted, kind_word, mark_word, words}
 
 -- ---- names
 
@@ -79,7 +79,7 @@ token_kept : (text s : List ℕ) (at : ℕ) (token : Token) → s ≡ drop at te
 token_kept text s at token e is =
     let size : token.end - token.start ≡ is.len = omega (arith, is.starts, is.ends) in
     let bytes : take is.len s ≡ take (token.end - token.start) (drop token.start text) =
-        ap (λ (n : ℕ). take n s) (sym size) ∙ ap (take (token.end - token.start)) (e ∙ ap (λ (n : ℕ). drop n text) (sym is.starts)) in
+    ap (λ (n : ℕ). take n s) (sym size) ∙ ap (take (token.end - token.start)) (e ∙ ap (λ (n : ℕ). drop n text) (sym is.starts)) in
     subst (IsKept token.kind) bytes (kept_of token.kind (take is.len s) is.stands.spelled is.keeps_limit)
 
 led_kept : (text s : List ℕ) (at : ℕ) (r : Result Token TokenRefusal) (after : ℕ → Stream) → s ≡ drop at text → Says at s r → ((place : ℕ) → Each (IsKeptIn text) (after place).tokens) → Each (IsKeptIn text) (led_by r after).tokens

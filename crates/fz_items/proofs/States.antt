@@ -74,9 +74,9 @@ pub kept_more : (context : Context) (items : List Item) (own : ℕ) (bytes : Lis
     → IsKept (declares context bytes meant) (items ++ i ∷ []) (own + own_in items (i ∷ []))
 kept_more context items own bytes meant i kept named here = record {
   named = map-append (λ (e : List ℕ × Meant). e.0) context.entries ((bytes, meant) ∷ [])
-    ∙ ap (λ (names : List (List ℕ)). names ++ bytes ∷ []) kept.named
-    ∙ ap (λ (name : List ℕ). map name_of_item items ++ name ∷ []) (sym named)
-    ∙ sym (map-append name_of_item items (i ∷ []));
+      ∙ ap (λ (names : List (List ℕ)). names ++ bytes ∷ []) kept.named
+      ∙ ap (λ (name : List ℕ). map name_of_item items ++ name ∷ []) (sym named)
+      ∙ sym (map-append name_of_item items (i ∷ []));
   elements = kept.elements;
   variables = kept.variables;
   counted = ap (λ (n : ℕ). n + own_in items (i ∷ [])) kept.counted ∙ sym (own_more items i kept.placed here);

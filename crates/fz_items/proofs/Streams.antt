@@ -1,5 +1,5 @@
 -- What is left of the tokens of a text, as they are taken.
-use Rattle.std.proofs.Common.{◌≡◌, ℕ, ◌<◌, ◌≤◌, List, [], ◌∷◌, ◌++◌, length, Option, Some, None, Result, Ok, refl, sym, ◌∙◌, ap, append_assoc, subst, arith}
+use Rattle.std.proofs.Common.{◌≡◌, ℕ, ◌<◌, List, [], ◌∷◌, ◌++◌, length, Option, Some, None, Result, Ok, refl, sym, ◌∙◌, ap, append_assoc, subst, arith}
 use Rattle.fz_token.specs.Stream.{Stream, stream, before, with_token, IsInOrder}
 use Rattle.fz_token.specs.declared.Token.{Token}
 use Rattle.fz_token.specs.declared.TokenKind.{TokenKind}
@@ -52,7 +52,7 @@ pub behind_as : (text : List ℕ) (present : Result (Option Token) TokenRefusal)
     → present ≡ Ok next → next ≡ Some token → rest ≡ after → IsBehind text (before present rest) last earlier → IsBehind text after (Some token.kind) last
 behind_as text present next token rest after last earlier p n e h =
     let at_token : IsBehind text (with_token token rest) last earlier =
-        subst (λ (r : Result (Option Token) TokenRefusal). IsBehind text (before r rest) last earlier) (p ∙ ap (λ (o : Option Token). let r : Result (Option Token) TokenRefusal = Ok o in r) n) h in
+    subst (λ (r : Result (Option Token) TokenRefusal). IsBehind text (before r rest) last earlier) (p ∙ ap (λ (o : Option Token). let r : Result (Option Token) TokenRefusal = Ok o in r) n) h in
     record {
       front = at_token.front ++ token ∷ [];
       parts = at_token.parts ∙ sym (append_assoc at_token.front (token ∷ []) rest.tokens) ∙ ap (λ (s : Stream). (at_token.front ++ token ∷ []) ++ s.tokens) e;

@@ -1,18 +1,18 @@
 -- A model is read as its items, and the rest behind them.
-use Rattle.std.proofs.Common.{◌≡◌, ℕ, ◌<◌, true, false, length, ◌⊎◌, inl, inr, List, [], ◌∷◌, ◌++◌, map, Option, Some, None, Result, Ok, Err, refl, sym, ap, subst, ◌∙◌}
+use Rattle.std.proofs.Common.{◌≡◌, ℕ, ◌<◌, true, false, length, inl, inr, List, [], ◌∷◌, ◌++◌, map, Option, Some, None, Result, Ok, Err, refl, sym, ap, subst, ◌∙◌}
 use Rattle.std.specs.Option.{option_map_or}
 use Rattle.std.proofs.lemmas.List.{append-nil, map-append}
 use Rattle.dp_base.specs.Lists.{Each}
 use Rattle.dp_grammar.specs.Chain.{mapped}
 use Rattle.dp_grammar.specs.Choice.{begins}
-use Rattle.dp_grammar.specs.Grammar.{Cause, Reading, Takes, Stops, Syntax, IsLawful, Tells}
+use Rattle.dp_grammar.specs.Grammar.{Cause, Reading, Takes, Stops, Syntax, Tells}
 use Rattle.dp_grammar.specs.Whole.{finished}
 use Rattle.dp_grammar.proofs.Loops.{with_front, no_front, behind_items, item_taken, item_refused, item_shortens, close_taken, close_refused}
 use Rattle.fz_token.specs.Stream.{Stream, stream}
 use Rattle.fz_token.specs.declared.TokenRefusal.{TokenRefusal}
 use Rattle.fz_model.specs.Constraints.{ArgWords, ConstraintWords, arg_basic}
 use Rattle.fz_model.specs.Context.{BasicText, Context, Truth, Whole, Name}
-use Rattle.fz_model.specs.Models.{IsModel, Plan, basic_of_text, constraint_of_words, elements_of, expr_of, goal_of, item_of, items_behind, items_of, model_of, name_of_item}
+use Rattle.fz_model.specs.Models.{IsModel, Plan, basic_of_text, constraint_of_words, expr_of, goal_of, item_of, items_behind, items_of, model_of, name_of_item}
 use Rattle.fz_model.specs.ModelText.{GoalWords, ItemWords, ModelWords, Rest, after_item, after_items, begins_item, closing, context_of, declares, item, model, model_words, named_cause, named_refusal, nothing, rest_of}
 use Rattle.fz_model.specs.Words.{IsSpelled, Word, words}
 use Rattle.fz_model.specs.declared.fault.Fault.{Fault}
@@ -172,7 +172,7 @@ whole_taken text context items left rest p h b e =
     let total : model.read text ≡ Takes (h.kept, from.value) rest = close_taken model_parts parts_are h.kept left (model.read text) from.value rest b close h.so_far in
     let seen : rest_in (names_in (context_of h.kept)) from.value ≡ p = ap (λ (c : Context). rest_in (names_in c) from.value) (sym h.context_is) ∙ from.seen in
     let plan : model_of (h.kept, from.value) ≡ plan_at items p =
-        sym (rest_is h.kept from.value) ∙ ap (plan_at (items_of h.kept)) seen ∙ ap (λ (is : List Item). plan_at is p) (sym h.items_are) in
+    sym (rest_is h.kept from.value) ∙ ap (plan_at (items_of h.kept)) seen ∙ ap (λ (is : List Item). plan_at is p) (sym h.items_are) in
     ap (mapped model_of) total ∙ ap (λ (m : Plan). let r : Reading Word Fault Plan = Takes m rest in r) plan
 
 pub whole_refused : (text : List Word) (context : Context) (items : List Item) (left rest : List Word) (cause : Cause Fault)

@@ -1,5 +1,5 @@
 -- The arguments of constraints, as the code reads them.
-use Rattle.std.specs.Prelude.{ℕ, true, not, List, length, map, slice_get, Option, ℤ}
+use Rattle.std.specs.Prelude.{ℕ, true, not, length, map, slice_get, Option, ℤ}
 use Rattle.std.proofs.Common.{inl, inr}
 use Rattle.dp_grammar.specs.Brackets.{Plain, Closes}
 use Rattle.dp_grammar.specs.Leaf.{leaf, tested_mark}

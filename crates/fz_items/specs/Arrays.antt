@@ -1,5 +1,5 @@
 -- Arrays of variables, as the code reads them.
-use Rattle.std.specs.Prelude.{ℕ, ◌*◌, min, pos, ◌+ℤ◌, ◌-ℤ◌, ◌==◌, Bool, false, not, List, [], ◌∷◌, length, map, Option, Some, None, option_map}
+use Rattle.std.specs.Prelude.{ℕ, ◌*◌, min, pos, ◌+ℤ◌, ◌-ℤ◌, ◌==◌, Bool, false, not, List, [], ◌∷◌, map, Option, Some, None, option_map}
 use Rattle.fz_token.specs.declared.Keyword.TheVariants as key
 use Rattle.dp_grammar.specs.Brackets.{Plain}
 use Rattle.dp_grammar.specs.Chain.{followed, mapped, behind_mark, before_mark}

@@ -1,5 +1,5 @@
 -- Items, as the code reads them.
-use Rattle.std.specs.Prelude.{ℕ, Bool, List, [], ◌∷◌, if◌then◌else◌}
+use Rattle.std.specs.Prelude.{List, [], ◌∷◌, if◌then◌else◌}
 use Rattle.fz_token.specs.declared.Keyword.TheVariants as key
 use Rattle.dp_grammar.specs.Chain.{followed, mapped}
 use Rattle.dp_grammar.specs.Choice.{begins}

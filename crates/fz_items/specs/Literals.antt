@@ -1,5 +1,5 @@
 -- Integers, ranges, sets and the types of variables, as the code reads them.
-use Rattle.std.specs.Prelude.{ℕ, Bool, List, length, map, Option, ℤ}
+use Rattle.std.specs.Prelude.{ℕ, Bool, length, map, Option, ℤ}
 use Rattle.std.proofs.Common.{inl, inr}
 use Rattle.dp_grammar.specs.Brackets.{Plain}
 use Rattle.dp_grammar.specs.Listed.{Listing}

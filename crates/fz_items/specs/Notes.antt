@@ -1,8 +1,7 @@
 -- What annotations say of how an item is printed.
-use Rattle.std.specs.Prelude.{◌≡◌, ℕ, zero, suc, ◌||◌, ◌==◌, Bool, true, false, if◌then◌else◌, List, [], ◌∷◌, ◌++◌, map, reverse, Option, Some, None, is_none, option_map, Result, Ok, Err, bytes_eq, codes, length, ◌&&◌, Vec}
+use Rattle.std.specs.Prelude.{ℕ, zero, suc, ◌||◌, ◌==◌, Bool, true, false, if◌then◌else◌, List, [], ◌∷◌, ◌++◌, map, reverse, Option, Some, None, is_none, option_map, Result, Ok, Err, bytes_eq, codes, length, ◌&&◌, Vec}
 use Rattle.std.specs.Global.{Global}
 use Rattle.std.proofs.Common.{inl, inr}
-use Rattle.std.specs.Option.{option_map_or}
 use Rattle.dp_grammar.specs.Brackets as word
 use Rattle.dp_grammar.specs.Brackets.{spell_inside, read_inside}
 use Rattle.dp_grammar.specs.Chain.{followed, mapped, behind_mark}
@@ -20,7 +19,6 @@ use Rattle.fz_model.specs.Items.{IntText}
 use Rattle.fz_model.specs.Limits.{no_test}
 use Rattle.fz_model.specs.Literals.{name, range}
 use Rattle.fz_model.specs.Marks.{is_stop, is_open, is_close, opens, closes}
-use Rattle.fz_model.specs.Models.{is_noted}
 use Rattle.fz_model.specs.declared.fault.Fault.{Fault}
 use Rattle.fz_model.specs.Words as words
 use Rattle.fz_model.specs.Words.{Bracket, DoubleColon, Word, bracket_code, bracketing}

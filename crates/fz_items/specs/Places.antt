@@ -2,7 +2,7 @@
 use Rattle.std.specs.Prelude.{ℕ, List, map, bytes_eq, unwrap_or}
 use Rattle.std.specs.List.{position}
 use Rattle.std.proofs.Common.{inl, inr}
-use Rattle.fz_model.specs.Constraints.{ArgWords, ConstraintWords, arg_basic, behind}
+use Rattle.fz_model.specs.Constraints.{ArgWords, ConstraintWords, arg_basic}
 use Rattle.fz_model.specs.Context.{BasicText, Context, Truth, Whole, Name}
 use Rattle.fz_model.specs.declared.model.Basic.{Basic}
 use Rattle.fz_model.specs.declared.model.Basic.TheVariants as basic

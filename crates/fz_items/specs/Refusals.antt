@@ -1,5 +1,5 @@
 -- The place of a refusal, and words that are known and not supported.
-use Rattle.std.specs.Prelude.{ℕ, ◌-◌, Bool, false, ◌||◌, ◌&&◌, List, [], ◌∷◌, length, take, drop, option_map, Option, Some, Result, Ok, Err}
+use Rattle.std.specs.Prelude.{ℕ, ◌-◌, Bool, false, ◌||◌, ◌&&◌, List, [], ◌∷◌, length, take, drop, option_map, Option, Result, Ok, Err}
 use Rattle.std.specs.Option.{option_map_or}
 use Rattle.fz_token.specs.Stream.{Stream}
 use Rattle.fz_token.specs.declared.Keyword.TheVariants as key

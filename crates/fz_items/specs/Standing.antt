@@ -1,6 +1,5 @@
 -- A text that is being read, word by word.
 use Rattle.std.specs.Prelude.{◌≡◌, ℕ, ◌≤◌, List, [], ◌∷◌, ◌++◌, length, Option, Some, None, Result}
-use Rattle.dp_grammar.specs.Choice.{begins}
 use Rattle.fz_token.specs.Reading.{Reading}
 use Rattle.fz_token.specs.Stream.{Stream, stream, stream_at, before}
 use Rattle.fz_token.specs.declared.Token.{Token}

@@ -1,5 +1,5 @@
 -- What is wanted where a literal or a name stands.
-use Rattle.std.specs.Prelude.{ℕ, ◌==◌, Bool, not, ◌&&◌, List, length, Option, Some, None, ℤ}
+use Rattle.std.specs.Prelude.{ℕ, ◌==◌, Bool, not, ◌&&◌, length, Option, Some, None, ℤ}
 use Rattle.std.specs.Int.Signed.{lt_z}
 use Rattle.dp_grammar.specs.Brackets.{Plain, Closes}
 use Rattle.dp_grammar.specs.Leaf.{tested_mark}

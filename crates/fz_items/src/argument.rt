@@ -37,11 +37,13 @@ impl<'a> Source<'a> {
         ensures { result ≡ begins grammar.is_dotted self.now.left }
     {
         match self.word() {
-            Some(Seen {
-                kind: TokenKind::Integer(_),
-                dotted,
-                ..
-            }) => dotted,
+            Some(
+                Seen {
+                    kind: TokenKind::Integer(_),
+                    dotted,
+                    ..
+                },
+            ) => dotted,
             _ => false,
         }
     }
@@ -51,11 +53,13 @@ impl<'a> Source<'a> {
         ensures { IsHere (λ v. v) (λ v. v) dotted self.now.left result }
     {
         match self.word() {
-            Some(Seen {
-                kind: TokenKind::Integer(value),
-                dotted: true,
-                ..
-            }) => Ok(value),
+            Some(
+                Seen {
+                    kind: TokenKind::Integer(value),
+                    dotted: true,
+                    ..
+                },
+            ) => Ok(value),
             _ => Err(Cause::Syntax),
         }
     }
@@ -65,27 +69,35 @@ impl<'a> Source<'a> {
         ensures { IsHere arg_text (λ t. t) text self.now.left result }
     {
         match self.word() {
-            Some(Seen {
-                kind: TokenKind::Keyword(Keyword::True),
-                ..
-            }) => Ok(BasicWord::Truth(true)),
-            Some(Seen {
-                kind: TokenKind::Keyword(Keyword::False),
-                ..
-            }) => Ok(BasicWord::Truth(false)),
-            Some(Seen {
-                kind: TokenKind::Integer(value),
-                dotted: false,
-                ..
-            }) => Ok(BasicWord::Whole(Number {
+            Some(
+                Seen {
+                    kind: TokenKind::Keyword(Keyword::True),
+                    ..
+                },
+            ) => Ok(BasicWord::Truth(true)),
+            Some(
+                Seen {
+                    kind: TokenKind::Keyword(Keyword::False),
+                    ..
+                },
+            ) => Ok(BasicWord::Truth(false)),
+            Some(
+                Seen {
+                    kind: TokenKind::Integer(value),
+                    dotted: false,
+                    ..
+                },
+            ) => Ok(BasicWord::Whole(Number {
                 value,
                 dotted: false,
             })),
-            Some(Seen {
-                kind: TokenKind::Name,
-                bytes,
-                ..
-            }) => Ok(BasicWord::Name(bytes)),
+            Some(
+                Seen {
+                    kind: TokenKind::Name,
+                    bytes,
+                    ..
+                },
+            ) => Ok(BasicWord::Name(bytes)),
             _ => Err(Cause::Syntax),
         }
     }

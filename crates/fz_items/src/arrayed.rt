@@ -10,7 +10,7 @@ ghost use Rattle.fz_items.specs.Literals.{set_count, set_words, type_words};
 ghost use Rattle.fz_items.specs.Seen.{basic_text};
 ghost use Rattle.fz_items.specs.States.{consts_effect, consts_kept, set_effect, vars_effect, vars_kept};
 
-use crate::declared::{copied, Declared};
+use crate::declared::{Declared, copied};
 use crate::kinds::{kept_array, kept_ranges, kept_set, kept_type};
 use crate::places::elements;
 use crate::text::{BasicWord, ConstsText, SetWords, TypeWords, VarsText};

@@ -97,11 +97,7 @@ fn constraint_words<'a>(
 }
 
 /// The constraint, with the places of the names.
-fn constraint(
-    alloc: Global,
-    names: &Names,
-    words: &ConstraintWords,
-) -> Result<Constraint, Memory>
+fn constraint(alloc: Global, names: &Names, words: &ConstraintWords) -> Result<Constraint, Memory>
     ensures { IfOk result (λ c. c ≡ (told names.now (words_of words.now)).0) }
 {
     let args = exprs(alloc, names, words.args.as_slice())?;

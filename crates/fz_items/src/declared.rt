@@ -71,7 +71,13 @@ impl Declared {
     }
 
     /// With an item more, which is no variable.
-    pub fn with(self, alloc: Global, name: &[u8], meant: Meant, item: Item) -> Result<Declared, Memory>
+    pub fn with(
+        self,
+        alloc: Global,
+        name: &[u8],
+        meant: Meant,
+        item: Item,
+    ) -> Result<Declared, Memory>
         requires new { fresh self.context name.now ≡ None }
         requires named { name_of_item item ≡ name.now }
         requires other { IsNoVariable item }

@@ -18,16 +18,16 @@ ghost use Rattle.fz_items.specs.Parameters.{consts_read, parameter_read, set_rea
 ghost use Rattle.fz_items.specs.States.{bool_effect, consts_effect, int_effect, set_effect, variable_effect, vars_effect};
 ghost use Rattle.fz_items.specs.Variables.{variable_read};
 
-use crate::declared::{copied, Declared};
 use crate::annotations::plain_name;
 use crate::arrayed::{with_consts, with_set, with_vars};
 use crate::arrays::{listed, vars_behind, vars_head};
 use crate::brackets::balanced;
+use crate::declared::{Declared, copied};
 use crate::parameters::{array_head, bool_text, consts_text, int_text, set_text};
 use crate::source::Source;
 use crate::stop::Stop;
-use crate::variables::var_text;
 use crate::text::{Number, TypeWords};
+use crate::variables::var_text;
 use fz_model::{Item, Meant};
 use fz_token::{Keyword, Mark};
 use std::alloc::Global;
@@ -63,7 +63,11 @@ pub fn bool_item(alloc: Global, source: &mut Source, declared: Declared) -> Resu
 }
 
 /// A variable or an alias.
-pub fn variable_item(alloc: Global, source: &mut Source, declared: Declared) -> Result<Declared, Stop>
+pub fn variable_item(
+    alloc: Global,
+    source: &mut Source,
+    declared: Declared,
+) -> Result<Declared, Stop>
     ensures reads { Gives (λ d. d) (mapped (variable_effect declared) (variable_read declared.context source.old.left)) result source.new.left }
     ensures text { source.new.text ≡ source.old.text }
 {

@@ -7,8 +7,8 @@ ghost use Rattle.fz_model.specs.ModelText.{begins_item};
 ghost use Rattle.fz_model.specs.Words.{Key};
 ghost use Rattle.fz_items.specs.Wholes.{ItemsRead};
 
-use crate::declared::Declared;
 use crate::any_item::item;
+use crate::declared::Declared;
 use crate::source::{Seen, Source};
 use crate::stop::Stop;
 use fz_token::{Keyword, TokenKind};
@@ -34,10 +34,12 @@ fn is_item(source: &Source) -> bool
     ensures { result ≡ begins begins_item source.now.left }
 {
     match source.word() {
-        Some(Seen {
-            kind: TokenKind::Keyword(keyword),
-            ..
-        }) => is_item_word(keyword),
+        Some(
+            Seen {
+                kind: TokenKind::Keyword(keyword),
+                ..
+            },
+        ) => is_item_word(keyword),
         _ => false,
     }
 }

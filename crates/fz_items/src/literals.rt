@@ -12,7 +12,7 @@ ghost use Rattle.fz_items.specs.Seen.{number_of};
 use crate::source::Source;
 use crate::stop::{Cause, Stop};
 use crate::text::{Number, SetWords, TypeWords};
-use fz_model::{beyond_small, Fault};
+use fz_model::{Fault, beyond_small};
 use fz_names::Names;
 use fz_token::{Keyword, Mark};
 use std::alloc::Global;

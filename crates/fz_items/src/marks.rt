@@ -23,10 +23,12 @@ impl<'a> Source<'a> {
         ensures { result ≡ begins (grammar.is_key keyword) self.now.left }
     {
         match self.word() {
-            Some(Seen {
-                kind: TokenKind::Keyword(other),
-                ..
-            }) => other == keyword,
+            Some(
+                Seen {
+                    kind: TokenKind::Keyword(other),
+                    ..
+                },
+            ) => other == keyword,
             _ => false,
         }
     }
@@ -36,10 +38,12 @@ impl<'a> Source<'a> {
         ensures { result ≡ begins (spec.is_mark mark) self.now.left }
     {
         match self.word() {
-            Some(Seen {
-                kind: TokenKind::Mark(other),
-                ..
-            }) => other == mark,
+            Some(
+                Seen {
+                    kind: TokenKind::Mark(other),
+                    ..
+                },
+            ) => other == mark,
             _ => false,
         }
     }
@@ -84,11 +88,13 @@ impl<'a> Source<'a> {
         ensures { IsHere (λ b. b.now) (λ b. b) name self.now.left result }
     {
         match self.word() {
-            Some(Seen {
-                kind: TokenKind::Name,
-                bytes,
-                ..
-            }) => Ok(bytes),
+            Some(
+                Seen {
+                    kind: TokenKind::Name,
+                    bytes,
+                    ..
+                },
+            ) => Ok(bytes),
             _ => Err(Cause::Syntax),
         }
     }
@@ -98,11 +104,13 @@ impl<'a> Source<'a> {
         ensures { IsHere number_of (λ n. n.0) integer self.now.left result }
     {
         match self.word() {
-            Some(Seen {
-                kind: TokenKind::Integer(value),
-                dotted,
-                ..
-            }) => Ok(Number { value, dotted }),
+            Some(
+                Seen {
+                    kind: TokenKind::Integer(value),
+                    dotted,
+                    ..
+                },
+            ) => Ok(Number { value, dotted }),
             _ => Err(Cause::Syntax),
         }
     }
@@ -112,24 +120,32 @@ impl<'a> Source<'a> {
         ensures { IsHere basic_text (λ t. t) basic self.now.left result }
     {
         match self.word() {
-            Some(Seen {
-                kind: TokenKind::Keyword(Keyword::True),
-                ..
-            }) => Ok(BasicWord::Truth(true)),
-            Some(Seen {
-                kind: TokenKind::Keyword(Keyword::False),
-                ..
-            }) => Ok(BasicWord::Truth(false)),
-            Some(Seen {
-                kind: TokenKind::Integer(value),
-                dotted,
-                ..
-            }) => Ok(BasicWord::Whole(Number { value, dotted })),
-            Some(Seen {
-                kind: TokenKind::Name,
-                bytes,
-                ..
-            }) => Ok(BasicWord::Name(bytes)),
+            Some(
+                Seen {
+                    kind: TokenKind::Keyword(Keyword::True),
+                    ..
+                },
+            ) => Ok(BasicWord::Truth(true)),
+            Some(
+                Seen {
+                    kind: TokenKind::Keyword(Keyword::False),
+                    ..
+                },
+            ) => Ok(BasicWord::Truth(false)),
+            Some(
+                Seen {
+                    kind: TokenKind::Integer(value),
+                    dotted,
+                    ..
+                },
+            ) => Ok(BasicWord::Whole(Number { value, dotted })),
+            Some(
+                Seen {
+                    kind: TokenKind::Name,
+                    bytes,
+                    ..
+                },
+            ) => Ok(BasicWord::Name(bytes)),
             _ => Err(Cause::Syntax),
         }
     }

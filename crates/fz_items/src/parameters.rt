@@ -17,7 +17,7 @@ ghost use Rattle.fz_items.specs.Wants.{element_wanted};
 
 use crate::annotations::annotations;
 use crate::elements::array;
-use crate::literals::{integer, set_literal, Bound};
+use crate::literals::{Bound, integer, set_literal};
 use crate::source::{Seen, Source};
 use crate::stop::{Cause, Stop};
 use crate::text::{BasicWord, ConstsText, Number, SetWords};
@@ -134,11 +134,13 @@ fn one(source: &mut Source) -> Result<bool, Cause>
     ensures text { source.new.text ≡ source.old.text }
 {
     let dotted = match source.word() {
-        Some(Seen {
-            kind: TokenKind::Integer(value),
-            dotted,
-            ..
-        }) if 1 <= value && value <= 1 => dotted,
+        Some(
+            Seen {
+                kind: TokenKind::Integer(value),
+                dotted,
+                ..
+            },
+        ) if 1 <= value && value <= 1 => dotted,
         _ => return Err(Cause::Syntax),
     };
     source.advance();

@@ -10,8 +10,8 @@ ghost use Rattle.fz_items.specs.Gives.{Gives, IfRefused, given};
 ghost use Rattle.fz_items.specs.Literals.{range_of};
 ghost use Rattle.fz_items.specs.Notes.{closing_all, range_listing, seen_args};
 
-use crate::brackets::{pass_over, Shape};
-use crate::literals::{range, Bound};
+use crate::brackets::{Shape, pass_over};
+use crate::literals::{Bound, range};
 use crate::source::Source;
 use crate::stop::{Cause, Stop};
 use crate::text::Number;

@@ -17,23 +17,50 @@ const ROWS: [(&[u8], ModelRefusal); 30] = [
     (b"var 1..2: z = z;", ModelRefusal::Unknown(14)),
     (b"bool: b = true; var 1..2: z = b;", ModelRefusal::Kind(30)),
     (b"array [1..2] of int: a = [1];", ModelRefusal::Kind(27)),
-    (b"array [1..1] of var 1..2: a = [3];", ModelRefusal::Kind(31)),
+    (
+        b"array [1..1] of var 1..2: a = [3];",
+        ModelRefusal::Kind(31),
+    ),
     (b"array [2..2] of int: a = [1];", ModelRefusal::Syntax(7)),
     (b"constraint int_le(1,2,3);", ModelRefusal::Kind(22)),
     (b"constraint int_le(1,2..3);", ModelRefusal::Kind(20)),
     (b"constraint set_in(1,5);", ModelRefusal::Kind(20)),
-    (b"constraint int_lin_le([1],[1,2],3);", ModelRefusal::Kind(33)),
-    (b"constraint int_lin_le([1000000001],[1],3);", ModelRefusal::Limit(23)),
-    (b"int: n = 3; solve minimize n;", ModelRefusal::Unsupported(27)),
+    (
+        b"constraint int_lin_le([1],[1,2],3);",
+        ModelRefusal::Kind(33),
+    ),
+    (
+        b"constraint int_lin_le([1000000001],[1],3);",
+        ModelRefusal::Limit(23),
+    ),
+    (
+        b"int: n = 3; solve minimize n;",
+        ModelRefusal::Unsupported(27),
+    ),
     (b"var bool: b; solve minimize b;", ModelRefusal::Kind(28)),
-    (b"var 1..2: x; constraint cumulative([1],[x],[1],1);", ModelRefusal::Unsupported(40)),
-    (b"constraint cumulative([1],[1],[1],-1);", ModelRefusal::Limit(34)),
-    (b"array [1..1] of var 1..2: a :: output_array([1..2]) = [1];", ModelRefusal::Kind(57)),
-    (b"array [1..1] of var 1..2: a :: output_array = [1];", ModelRefusal::Kind(49)),
+    (
+        b"var 1..2: x; constraint cumulative([1],[x],[1],1);",
+        ModelRefusal::Unsupported(40),
+    ),
+    (
+        b"constraint cumulative([1],[1],[1],-1);",
+        ModelRefusal::Limit(34),
+    ),
+    (
+        b"array [1..1] of var 1..2: a :: output_array([1..2]) = [1];",
+        ModelRefusal::Kind(57),
+    ),
+    (
+        b"array [1..1] of var 1..2: a :: output_array = [1];",
+        ModelRefusal::Kind(49),
+    ),
     (b"solve satisfy; x", ModelRefusal::Syntax(15)),
     (b"solve satisfy; 1.5", ModelRefusal::Unsupported(15)),
     (b"var set of int: s;", ModelRefusal::Unsupported(4)),
-    (b"array [1..1] of set of int: s;", ModelRefusal::Unsupported(16)),
+    (
+        b"array [1..1] of set of int: s;",
+        ModelRefusal::Unsupported(16),
+    ),
 ];
 
 #[test]

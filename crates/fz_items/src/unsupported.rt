@@ -39,11 +39,7 @@ fn is_float(kind: TokenKind) -> bool
 }
 
 /// Whether a word of this kind is not supported behind one of the `last` kind, and one of the `earlier` kind before it.
-pub fn is_unsupported(
-    kind: TokenKind,
-    last: Option<TokenKind>,
-    earlier: Option<TokenKind>,
-) -> bool
+pub fn is_unsupported(kind: TokenKind, last: Option<TokenKind>, earlier: Option<TokenKind>) -> bool
     ensures { result ≡ unsupported_kind kind last earlier }
 {
     is_float(kind)

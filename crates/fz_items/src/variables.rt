@@ -16,7 +16,7 @@ use crate::literals::var_type;
 use crate::source::Source;
 use crate::stop::{Cause, Stop};
 use crate::text::{BasicWord, TypeWords, VarText};
-use crate::want::{basic, Want};
+use crate::want::{Want, basic};
 use fz_model::Fault;
 use fz_names::Names;
 use fz_token::{Keyword, Mark};

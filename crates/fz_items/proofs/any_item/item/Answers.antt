@@ -1,4 +1,4 @@
-use Rattle.std.proofs.Common.{List, sym, subst}
+use Rattle.std.proofs.Common.{sym, subst}
 use Rattle.dp_grammar.specs.Grammar.{Reading}
 use Rattle.fz_model.specs.Words.{Word}
 use Rattle.fz_model.specs.declared.fault.Fault.{Fault}

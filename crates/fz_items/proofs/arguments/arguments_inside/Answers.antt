@@ -1,4 +1,4 @@
-use Rattle.std.proofs.Common.{◌≡◌, ◌≤◌, List, [], ◌∷◌, ◌++◌, length, map, sym, subst, ap, ◌∙◌, rules}
+use Rattle.std.proofs.Common.{◌≡◌, ◌≤◌, List, [], ◌∷◌, ◌++◌, map, sym, subst, ap, ◌∙◌, rules}
 use Rattle.dp_grammar.specs.Grammar.{Takes, Stops}
 use Rattle.dp_grammar.specs.Listed.{listed}
 use Rattle.fz_model.specs.Constraints.{argument}
@@ -33,8 +33,8 @@ items-init c =
     let pushed : c.push.new.self.items ≡ first ∷ [] = c.in_ok-push.ensures.items ∙ ap (λ (xs : List ArgWords). xs ++ first ∷ []) c.new-args.ensures.items in
     record {
       listed = subst (λ (xs : List ArgWords). IsListed listing ((listed listing).read left) (map arg_words xs) rest) (sym pushed)
-        (listed_first listing left (arg_words first) rest (sym c.is_mark.ensures ∙ c.if-is_mark.false)
-        (item_reads context c.args.kind [] 0 context c.wanted.result left left (Takes (arg_words first) rest) (sym (behind_none context)) (search rules) c.wanted.ensures (search rules) c.in_ok-first.ensures.reads));
+          (listed_first listing left (arg_words first) rest (sym c.is_mark.ensures ∙ c.if-is_mark.false)
+          (item_reads context c.args.kind [] 0 context c.wanted.result left left (Takes (arg_words first) rest) (sym (behind_none context)) (search rules) c.wanted.ensures (search rules) c.in_ok-first.ensures.reads));
       text = search rules;
       counted = c.in_ok-first.ensures.counted ∙ ap (λ (k : Context). with_elements k (arg_count first)) (sym (behind_none context)) ∙ behind_more context [] c.push.new.self.items first pushed;
       room = subst (λ (k : Context). k.elements ≤ max_elements) (sym c.in_ok-first.ensures.counted) c.in_ok-first.ensures.room;
@@ -72,10 +72,10 @@ items-preserved c =
     let arg = c.in_ok-arg.arg in
     record {
       listed = listed_pushed listing (args_listing_is context c.args.kind) arg_words ((listed listing).read c.args.source.now.left) c.items.args.items _ c.items.source.left arg rest
-        c.in_ok-push-2.ensures.items (sym c.is_mark-in-items.ensures ∙ c.items-test.true)
-        (item_reads context c.args.kind c.items.args.items c.len.result c.items.names c.wanted-in-items.result c.advance.new.self.left (behind c.items.source.left) (Takes (arg_words arg) rest)
-        c.items.invariant.counted (search rules) c.wanted-in-items.ensures c.advance.ensures.left c.in_ok-arg.ensures.reads)
-        c.items.invariant.listed;
+          c.in_ok-push-2.ensures.items (sym c.is_mark-in-items.ensures ∙ c.items-test.true)
+          (item_reads context c.args.kind c.items.args.items c.len.result c.items.names c.wanted-in-items.result c.advance.new.self.left (behind c.items.source.left) (Takes (arg_words arg) rest)
+          c.items.invariant.counted (search rules) c.wanted-in-items.ensures c.advance.ensures.left c.in_ok-arg.ensures.reads)
+          c.items.invariant.listed;
       text = search rules;
       counted = c.in_ok-arg.ensures.counted ∙ ap (λ (k : Context). with_elements k (arg_count arg)) c.items.invariant.counted ∙ behind_more context c.items.args.items _ arg c.in_ok-push-2.ensures.items;
       room = subst (λ (k : Context). k.elements ≤ max_elements) (sym c.in_ok-arg.ensures.counted) c.in_ok-arg.ensures.room;

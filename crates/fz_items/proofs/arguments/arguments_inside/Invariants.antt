@@ -13,7 +13,7 @@ invariant-items l =
       listed : IsListed listing ((listed listing).read l.fn.source.left) (map arg_words l.args.items) l.source.left;
       text : l.source.text ≡ l.fn.source.text;
       counted : l.names ≡ behind l.fn.names (map arg_words l.args.items);
-      room : l.names.elements ≤ max_elements
+      room : l.names.elements ≤ max_elements;
     }
 
 abbrev pub decreases-items : goal.decreases-items

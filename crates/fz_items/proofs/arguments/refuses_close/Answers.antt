@@ -1,5 +1,4 @@
-use Rattle.std.proofs.Common.{◌≡◌, true, false, map, sym, ap, ◌∙◌}
-use Rattle.std.specs.List.{filter_map}
+use Rattle.std.proofs.Common.{true, false, map, sym, ap, ◌∙◌}
 use Rattle.fz_model.specs.Constraints.{all_equal, array_length}
 use Rattle.fz_items.specs.Arguments.{arg_words}
 use Rattle.fz_items.proofs.ArgumentLists.{close_by, filter_mapped, not_few}

@@ -1,4 +1,4 @@
-use Rattle.std.proofs.Common.{List, ◌≡◌, ◌∷◌, Some, ap, sym, subst, ◌∙◌, rules}
+use Rattle.std.proofs.Common.{List, ◌≡◌, ap, sym, ◌∙◌, rules}
 use Rattle.dp_grammar.specs.Grammar.{Stops}
 use Rattle.fz_model.specs.Words.{Word}
 use Rattle.fz_items.specs.Gives.{cause_of}
@@ -24,7 +24,7 @@ returns-in_err-next-clause-refused c =
     (λ cause. (left rest : List Word) → stepped c.classed.result c.args.top (brackets_of c.args.below.now.items) left rest ≡ Stops (cause_of cause) left)
     _ c.from_residual.ensures.1
     (λ cause h. stepped_at _ _ c.in-Some.seen.kind c.args.top (brackets_of c.args.below.now.items) left (behind left) c.in-Some.ensures
-      ∙ ap (λ (k : Class). stepped k c.args.top (brackets_of c.args.below.now.items) left (behind left)) (sym c.classed.ensures) ∙ h left (behind left))
+    ∙ ap (λ (k : Class). stepped k c.args.top (brackets_of c.args.below.now.items) left (behind left)) (sym c.classed.ensures) ∙ h left (behind left))
     c.in_err-next.ensures.refused
 
 pub returns-in_default-clause-refused : goal.returns-in_default-clause-refused

@@ -11,6 +11,7 @@ pub items-smaller : goal.items-smaller
 items-smaller c = one_shortens c.args.source.now.left c.items.source.left c.item.new.source.left c.items.declared c.in_ok-declared.declared c.in_ok-declared.ensures.reads c.items.invariant.0
 
 pub items-preserved : goal.items-preserved
-items-preserved c =
-    (one_read c.args.source.now.left c.items.source.left c.item.new.source.left c.items.declared c.in_ok-declared.declared (sym c.is_item.ensures ∙ c.items-test.true) c.in_ok-declared.ensures.reads c.items.invariant.0,
-    search rules)
+items-preserved c = (
+  one_read c.args.source.now.left c.items.source.left c.item.new.source.left c.items.declared c.in_ok-declared.declared (sym c.is_item.ensures ∙ c.items-test.true) c.in_ok-declared.ensures.reads c.items.invariant.0,
+  search rules,
+)

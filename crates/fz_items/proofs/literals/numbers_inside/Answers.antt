@@ -15,14 +15,16 @@ returns-in_err-number-clause-reads c =
     let listing = number_listing c.args.names.now c.args.bound in
     gives_refused _ _ _ c.in_err-number.field-0.0 _ c.from_residual-in_err-number.ensures.1
     (listed_refused listing (number_listing_is c.args.names.now c.args.bound) ((listed listing).read c.args.source.now.left) (map number_of c.items.numbers.items) c.items.source.left
-      (cause_of c.in_err-number.field-0.0) c.listed_number-in-items.new.source.left (sym c.is_mark-in-items.ensures ∙ c.items-test.true) (search (rules, length-map)) c.items.invariant.0)
+    (cause_of c.in_err-number.field-0.0) c.listed_number-in-items.new.source.left (sym c.is_mark-in-items.ensures ∙ c.items-test.true) (search (rules, length-map)) c.items.invariant.0)
 
 pub items-preserved : goal.items-preserved
 items-preserved c =
-    let listing = number_listing c.args.names.now c.args.bound in
-    (listed_pushed listing (number_listing_is c.args.names.now c.args.bound) number_of ((listed listing).read c.args.source.now.left) c.items.numbers.items _ c.items.source.left
-    c.in_ok-number.number c.listed_number-in-items.new.source.left c.in_ok-push-2.ensures.items (sym c.is_mark-in-items.ensures ∙ c.items-test.true) (search (rules, length-map)) c.items.invariant.0, search rules,
-    room_kept c.args.names.now.elements max_elements c.items.numbers.items _ c.in_ok-number.number c.in_ok-push-2.ensures.items (omega (arith, c.in_ok-number.ensures.room, c.len.ensures)))
+    let listing = number_listing c.args.names.now c.args.bound in (
+      listed_pushed listing (number_listing_is c.args.names.now c.args.bound) number_of ((listed listing).read c.args.source.now.left) c.items.numbers.items _ c.items.source.left
+          c.in_ok-number.number c.listed_number-in-items.new.source.left c.in_ok-push-2.ensures.items (sym c.is_mark-in-items.ensures ∙ c.items-test.true) (search (rules, length-map)) c.items.invariant.0,
+      search rules,
+      room_kept c.args.names.now.elements max_elements c.items.numbers.items _ c.in_ok-number.number c.in_ok-push-2.ensures.items (omega (arith, c.in_ok-number.ensures.room, c.len.ensures)),
+    )
 
 pub returns-in_err-mark-2-clause-reads : goal.returns-in_err-mark-2-clause-reads
 returns-in_err-mark-2-clause-reads c =

@@ -1,10 +1,9 @@
-use Rattle.std.proofs.Common.{List, [], ◌∷◌, ◌++◌, Option, None, map, rules, ap, sym, ◌∙◌}
+use Rattle.std.proofs.Common.{List, [], ◌∷◌, ◌++◌, None, map, rules, ap, sym, ◌∙◌}
 use Rattle.dp_grammar.specs.Chain.{mapped}
-use Rattle.fz_model.specs.Annotations.{balanced}
 use Rattle.fz_model.specs.Words.{Bracket, Round, Square}
 use Rattle.fz_items.specs.Gives.{cause_of}
 use Rattle.fz_items.specs.Literals.{range_of}
-use Rattle.fz_items.specs.Notes.{brackets_of, closing_all, opened, seen_args}
+use Rattle.fz_items.specs.Notes.{brackets_of, closing_all}
 use Rattle.fz_items.specs.declared.brackets.Shape.{Shape}
 use Rattle.fz_items.specs.declared.brackets.Shape.TheVariants as shape
 use Rattle.fz_items.proofs.Exits.{gives_stop}
@@ -28,7 +27,7 @@ pub returns-in_err-pass_over-in-Ok-clause-reads : goal.returns-in_err-pass_over-
 returns-in_err-pass_over-in-Ok-clause-reads c =
     gives_stop {Y = Unit {0}} _ _ _ _ _ c.in_err-pass_over-in-Ok.field-0.0 _ c.from_residual-in_err-pass_over-in-Ok.ensures.1
     (λ cause e. not_ended c.args.source.now.left c.mark.new.self.left c.ranges_inside.new.source.left (map range_of c.in-Ok.ranges.items) tt c.in_ok-mark.ensures.reads (search rules) (search rules) (search rules)
-      ∙ ap (mapped (λ u. None)) (ap (λ (bs : List Bracket). closing_all (Round ∷ bs) c.ranges_inside.new.source.left) (sym (ap brackets_of c.new-in-Ok.ensures.items)) ∙ e)) c.in_err-pass_over-in-Ok.ensures.reads
+    ∙ ap (mapped (λ u. None)) (ap (λ (bs : List Bracket). closing_all (Round ∷ bs) c.ranges_inside.new.source.left) (sym (ap brackets_of c.new-in-Ok.ensures.items)) ∙ e)) c.in_err-pass_over-in-Ok.ensures.reads
 
 pub returns-in_ok-pass_over-in-Ok-clause-reads : goal.returns-in_ok-pass_over-in-Ok-clause-reads
 returns-in_ok-pass_over-in-Ok-clause-reads c =
@@ -39,7 +38,7 @@ pub returns-in_err-pass_over-in-Err-Refused-clause-reads : goal.returns-in_err-p
 returns-in_err-pass_over-in-Err-Refused-clause-reads c =
     gives_stop {Y = Unit {0}} _ _ _ _ _ c.in_err-pass_over-in-Err-Refused.field-0.0 _ c.from_residual-in_err-pass_over-in-Err-Refused.ensures.1
     (λ cause e. no_range c.args.source.now.left c.mark.new.self.left c.ranges_inside.new.source.left (cause_of c.in-Err-Refused.field-0-0) tt c.in_ok-mark.ensures.reads (search rules) (search rules)
-      ∙ ap (mapped (λ u. None)) (ap (λ (bs : List Bracket). closing_all (Square ∷ bs) c.ranges_inside.new.source.left) (sym (ap brackets_of (c.in_ok-push-in-Err-Refused.ensures.items ∙ ap (λ (shapes : List Shape). shapes ++ shape.Round ∷ []) c.new-below.ensures.items))) ∙ e))
+    ∙ ap (mapped (λ u. None)) (ap (λ (bs : List Bracket). closing_all (Square ∷ bs) c.ranges_inside.new.source.left) (sym (ap brackets_of (c.in_ok-push-in-Err-Refused.ensures.items ∙ ap (λ (shapes : List Shape). shapes ++ shape.Round ∷ []) c.new-below.ensures.items))) ∙ e))
     c.in_err-pass_over-in-Err-Refused.ensures.reads
 
 pub returns-in_ok-pass_over-in-Err-Refused-clause-reads : goal.returns-in_ok-pass_over-in-Err-Refused-clause-reads

@@ -7,7 +7,7 @@ use Rattle.fz_items.specs.Notes.{closing_all, range_listing}
 use Rattle.fz_items.proofs.Exits.{gives_refused, refused_by}
 use Rattle.fz_items.proofs.Listings.{range_listing_is}
 use Rattle.fz_items.proofs.Lists.{listed_pushed, listed_refused, listed_closed, listed_unclosed}
-use Rattle.fz_items.proofs.OutputRanges.{comma_kept, square_closed, square_open}
+use Rattle.fz_items.proofs.OutputRanges.{comma_kept, square_closed}
 use Rattle.fz_items.proofs.ranges.ranges_inside.Goals as goal
 
 pub returns-then-is_mark-clause-closed : goal.returns-then-is_mark-clause-closed
@@ -17,7 +17,7 @@ pub returns-in_err-range-clause-reads : goal.returns-in_err-range-clause-reads
 returns-in_err-range-clause-reads c =
     gives_refused _ _ _ c.in_err-range.field-0.0 _ c.from_residual-in_err-range.ensures.1
     (listed_refused range_listing range_listing_is ((listed range_listing).read c.args.source.now.left) (map range_of c.items.ranges.items) c.items.source.left
-      (cause_of c.in_err-range.field-0.0) c.plain_range-in-items.new.source.left (sym c.is_mark-in-items.ensures ∙ c.items-test.true) (search rules) c.items.invariant.0)
+    (cause_of c.in_err-range.field-0.0) c.plain_range-in-items.new.source.left (sym c.is_mark-in-items.ensures ∙ c.items-test.true) (search rules) c.items.invariant.0)
 
 pub returns-in_err-range-clause-plain : goal.returns-in_err-range-clause-plain
 returns-in_err-range-clause-plain c =
@@ -25,10 +25,12 @@ returns-in_err-range-clause-plain c =
     (c.items.invariant.2 ∙ comma_kept Square (Round ∷ []) c.items.source.left (sym c.is_mark-in-items.ensures ∙ c.items-test.true) ∙ ap (closing_all (Square ∷ Round ∷ [])) (sym c.advance.ensures.left) ∙ c.plain_range-in-items.ensures.plain)
 
 pub items-preserved : goal.items-preserved
-items-preserved c =
-    (listed_pushed range_listing range_listing_is range_of ((listed range_listing).read c.args.source.now.left) c.items.ranges.items _ c.items.source.left
-    c.in_ok-range.range c.plain_range-in-items.new.source.left c.in_ok-push-2.ensures.items (sym c.is_mark-in-items.ensures ∙ c.items-test.true) (search rules) c.items.invariant.0, search rules,
-    c.items.invariant.2 ∙ comma_kept Square (Round ∷ []) c.items.source.left (sym c.is_mark-in-items.ensures ∙ c.items-test.true) ∙ ap (closing_all (Square ∷ Round ∷ [])) (sym c.advance.ensures.left) ∙ c.plain_range-in-items.ensures.plain)
+items-preserved c = (
+  listed_pushed range_listing range_listing_is range_of ((listed range_listing).read c.args.source.now.left) c.items.ranges.items _ c.items.source.left
+      c.in_ok-range.range c.plain_range-in-items.new.source.left c.in_ok-push-2.ensures.items (sym c.is_mark-in-items.ensures ∙ c.items-test.true) (search rules) c.items.invariant.0,
+  search rules,
+  c.items.invariant.2 ∙ comma_kept Square (Round ∷ []) c.items.source.left (sym c.is_mark-in-items.ensures ∙ c.items-test.true) ∙ ap (closing_all (Square ∷ Round ∷ [])) (sym c.advance.ensures.left) ∙ c.plain_range-in-items.ensures.plain,
+)
 
 pub returns-in_err-mark-2-clause-reads : goal.returns-in_err-mark-2-clause-reads
 returns-in_err-mark-2-clause-reads c =

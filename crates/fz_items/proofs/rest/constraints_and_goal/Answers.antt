@@ -26,7 +26,7 @@ constraints-smaller c =
 pub constraints-preserved : goal.constraints-preserved
 constraints-preserved c = record {
   kept = one_kept c.args.names.now c.args.source.now.left c.constraints.constraints.items _ c.constraints.names c.constraint_item.new.names c.len.result c.constraints.source.left c.constraint_item.new.source.left c.in_ok-constraint.constraint
-    c.in_ok-push.ensures.items (search rules) (sym c.is_keyword.ensures ∙ c.constraints-test.true) c.in_ok-constraint.ensures.reads c.constraints.invariant.kept;
+      c.in_ok-push.ensures.items (search rules) (sym c.is_keyword.ensures ∙ c.constraints-test.true) c.in_ok-constraint.ensures.reads c.constraints.invariant.kept;
   text = search rules;
   room = c.in_ok-constraint.ensures.room;
 }

@@ -7,7 +7,7 @@ abbrev pub invariant-constraints : goal.invariant-constraints
 invariant-constraints l = record {
   kept : IsKept l.fn.names l.fn.source.left l.constraints.items l.names l.source.left;
   text : l.source.text ≡ l.fn.source.text;
-  room : l.names.elements ≤ max_elements
+  room : l.names.elements ≤ max_elements;
 }
 
 abbrev pub decreases-constraints : goal.decreases-constraints

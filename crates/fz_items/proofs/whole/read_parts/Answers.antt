@@ -21,7 +21,7 @@ returns-in_err-constraints-clause-reads c =
     let rest = c.constraints_and_goal.new.source.left in
     gives_stop {Y = Vec Constraint Global × ModelGoal} rest_of _ (mapped (rest_in (names_in names)) ((grammar.rest_of names).read left)) _ _ c.in_err-constraints.field-0.0 rest c.from_residual-in_err-constraints.ensures.1
     (λ cause e. whole_refused c.args.source.now.left c.in_ok-items.field-0.context c.in_ok-items.field-0.items left rest cause c.in_ok-items.ensures.reads.0 c.in_ok-items.ensures.reads.1
-      (subst (λ (k : Context). mapped (rest_in (names_in k)) ((grammar.rest_of k).read left) ≡ Stops cause rest) c.into_parts-names.ensures.names e))
+    (subst (λ (k : Context). mapped (rest_in (names_in k)) ((grammar.rest_of k).read left) ≡ Stops cause rest) c.into_parts-names.ensures.names e))
     c.in_err-constraints.ensures.reads
 
 pub returns-clause-reads : goal.returns-clause-reads
@@ -31,4 +31,4 @@ returns-clause-reads c =
     let p : List Constraint × ModelGoal = (c.in_ok-constraints.constraints.items, c.in_ok-constraints.goal) in
     subst (λ (is : List Item). mapped model_of (model.read c.args.source.now.left) ≡ Takes (plan_at is p) rest) (sym c.into_parts-names.ensures.items)
     (whole_taken c.args.source.now.left c.in_ok-items.field-0.context c.in_ok-items.field-0.items left rest p c.in_ok-items.ensures.reads.0 c.in_ok-items.ensures.reads.1
-      (subst (λ (k : Context). mapped (rest_in (names_in k)) ((grammar.rest_of k).read left) ≡ Takes p rest) c.into_parts-names.ensures.names c.in_ok-constraints.ensures.reads))
+    (subst (λ (k : Context). mapped (rest_in (names_in k)) ((grammar.rest_of k).read left) ≡ Takes p rest) c.into_parts-names.ensures.names c.in_ok-constraints.ensures.reads))

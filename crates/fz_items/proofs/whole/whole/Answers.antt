@@ -16,4 +16,4 @@ new-requires c =
     let at_end : c.read_parts.new.source.left ≡ [] = search rules in
     is_model c.args.text.now (plan_of c.in-Ok.parts)
     (subst (λ (ws : List Word). mapped model_of (model.read all) ≡ Takes (plan_of c.in-Ok.parts) ws) at_end
-      (subst (λ (ws : List Word). mapped model_of (model.read ws) ≡ Takes (plan_of c.in-Ok.parts) c.read_parts.new.source.left) source_is c.in-Ok.ensures.reads))
+    (subst (λ (ws : List Word). mapped model_of (model.read ws) ≡ Takes (plan_of c.in-Ok.parts) c.read_parts.new.source.left) source_is c.in-Ok.ensures.reads))

@@ -1,6 +1,4 @@
 use Rattle.std.proofs.Common.{sym, ◌∙◌}
-use Rattle.fz_model.specs.ModelText.{declares}
-use Rattle.fz_items.specs.States.{IsKept}
 use Rattle.fz_items.proofs.States.{kept_other}
 use Rattle.fz_items.proofs.declared.Declared.with.Goals as goal
 

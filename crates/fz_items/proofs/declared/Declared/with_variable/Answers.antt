@@ -1,4 +1,4 @@
-use Rattle.std.proofs.Common.{rules, ◌∙◌, ap, arith}
+use Rattle.std.proofs.Common.{rules, ◌∙◌, ap}
 use Rattle.fz_items.specs.States.{State, variable_effect}
 use Rattle.fz_items.specs.Variables.{variable_text}
 use Rattle.fz_items.proofs.States.{kept_with_variable, variable_stands}

@@ -12,4 +12,4 @@ returns-in-Some c =
     subst (λ (s : Standing). c.is_unsupported.result ≡ unsupported_at (words s.text (stream s.text).tokens) s.left) c.self.view_is
     (c.is_unsupported.ensures
     ∙ sym (unsupported_is inside.text.now (left_of inside.present inside.ahead inside.tokens) inside.last inside.earlier c.in-Some.seen.bytes.now c.in-Some.seen.dotted c.in-Some.seen.kind (behind c.args.self.now.left)
-      c.self.invariant.2 (ap (λ (s : Standing). s.left) c.self.view_is ∙ c.in-Some.ensures)))
+    c.self.invariant.2 (ap (λ (s : Standing). s.left) c.self.view_is ∙ c.in-Some.ensures)))

@@ -15,4 +15,4 @@ returns-in-Ok-Some c =
     let after = before inside.ahead (stream_at inside.tokens) in
     subst (λ (s : Standing). answer c.in-Ok-Some.token.start ≡ here (length s.text) (stream s.text) s.left) c.self.view_is
     (sym (place_at inside.text.now (left_of inside.present inside.ahead inside.tokens) c.in-Ok-Some.token after.tokens c.self.invariant.1
-      (first_token inside.present c.in-Ok-Some.field-0 c.in-Ok-Some.token after c.in-Ok-Some.is (rw c.in-Ok-Some.is at c.in-Ok-Some.field-0-is))))
+    (first_token inside.present c.in-Ok-Some.field-0 c.in-Ok-Some.token after c.in-Ok-Some.is (rw c.in-Ok-Some.is at c.in-Ok-Some.field-0-is))))
