@@ -1,5 +1,5 @@
 -- Texts put behind one another.
-use Rattle.std.proofs.Common.{◌≡◌, ℕ, ◌+◌, ◌<◌, List, ◌∷◌, ◌++◌, length, drop, get_or, ap, sym, ◌∙◌, add-one, append_assoc}
+use Rattle.std.proofs.Common.{◌≡◌, ℕ, ◌+◌, ◌<◌, List, ◌∷◌, ◌++◌, length, drop, get_or, refl, ap, sym, ◌∙◌, add-one, append_assoc}
 use Rattle.std.specs.List.{flat_map}
 use Rattle.std.proofs.Math.Seq.{drop-cons}
 
@@ -21,3 +21,13 @@ further f xs k x front text more within is q before =
     ap (λ t. t ++ flat_map f (drop (k + 1) xs)) q ∙ append_assoc text (f x) (flat_map f (drop (k + 1) xs))
     ∙ ap (λ y. text ++ (f y ++ flat_map f (drop (k + 1) xs))) is
     ∙ ap (λ ys. text ++ flat_map f ys) (sym (drop-cons xs k x within ∙ ap (λ n. get_or xs k x ∷ drop n xs) (sym (add-one k)))) ∙ before
+
+-- many texts behind one another
+pub flat_three : (a b c x : List ℕ) → ((a ++ b) ++ c) ++ x ≡ a ++ (b ++ (c ++ x))
+flat_three a b c x = simp append_assoc refl
+
+pub flat_seven : (a b c d e f g x : List ℕ) → ((((((a ++ b) ++ c) ++ d) ++ e) ++ f) ++ g) ++ x ≡ a ++ (b ++ (c ++ (d ++ (e ++ (f ++ (g ++ x))))))
+flat_seven a b c d e f g x = simp append_assoc refl
+
+pub flat_nine : (a b c d e f g h i x : List ℕ) → ((((((((a ++ b) ++ c) ++ d) ++ e) ++ f) ++ g) ++ h) ++ i) ++ x ≡ a ++ (b ++ (c ++ (d ++ (e ++ (f ++ (g ++ (h ++ (i ++ x))))))))
+flat_nine a b c d e f g h i x = simp append_assoc refl
