@@ -26,6 +26,9 @@ further f xs k x front text more within is q before =
 pub flat_three : (a b c x : List ℕ) → ((a ++ b) ++ c) ++ x ≡ a ++ (b ++ (c ++ x))
 flat_three a b c x = simp append_assoc refl
 
+pub flat_four : (a b c d x : List ℕ) → (((a ++ b) ++ c) ++ d) ++ x ≡ a ++ (b ++ (c ++ (d ++ x)))
+flat_four a b c d x = simp append_assoc refl
+
 pub flat_seven : (a b c d e f g x : List ℕ) → ((((((a ++ b) ++ c) ++ d) ++ e) ++ f) ++ g) ++ x ≡ a ++ (b ++ (c ++ (d ++ (e ++ (f ++ (g ++ x))))))
 flat_seven a b c d e f g x = simp append_assoc refl
 
