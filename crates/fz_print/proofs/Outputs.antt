@@ -112,7 +112,7 @@ same_fit : (count : ℕ) (xs : List Range) → fit count (Ok xs) ≡ true → fi
 same_fit count [] e = absurd cc
 same_fit count (p ∷ xs) e = ap (λ n. n == count) (same_product (p ∷ xs)) ∙ e
 
-abbrev is_sized : Annotation → Bool
+abbrev pub is_sized : Annotation → Bool
 is_sized note = bytes_eq note.name (codes "output_array")
 
 read_fits : (count : ℕ) (r : Result (List Range) (Cause Fault × List Word)) → fit count r ≡ true → output_test count (find is_sized (sized_notes (ranges_read r))) ≡ None

@@ -26,6 +26,17 @@ at_none (Some fault) text e = absurd cc
 
 -- ---- lists
 
+both_none : {T F : Type 0} (a : Option (F × List T)) (behind : List T) (b : Option (F × List T)) → first_fault a behind b ≡ None → (a ≡ None) × (b ≡ None)
+both_none None behind b e = (refl, e)
+both_none (Some fault) behind b e = absurd cc
+
+-- the end behind all items has no fault
+pub links_end : {T F X C : Type 0} (link : Link T F X C) (kept xs : List X) (c : C) → fault_behind link kept xs c ≡ None → (link (kept ++ xs)).fault (inr c) ≡ None
+links_end link kept [] c e = subst (λ k. (link k).fault (inr c) ≡ None) (sym (append-nil kept)) e
+links_end link kept (x ∷ xs) c e =
+    let p = both_none ((link kept).fault (inl x)) (spell_behind link (kept ++ x ∷ []) xs c) (fault_behind link (kept ++ x ∷ []) xs c) e in
+    subst (λ k. (link k).fault (inr c) ≡ None) (append_assoc kept (x ∷ []) xs) (links_end link (kept ++ x ∷ []) xs c p.1)
+
 links_none : {T F X C : Type 0} (link : Link T F X C) (kept xs : List X) (c : C) → EachBehind (λ before x. (link before).fault (inl x) ≡ None) kept xs → (link (kept ++ xs)).fault (inr c) ≡ None
     → fault_behind link kept xs c ≡ None
 links_none link kept [] c h e = subst (λ k. (link k).fault (inr c) ≡ None) (append-nil kept) e
