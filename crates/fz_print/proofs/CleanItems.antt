@@ -121,7 +121,7 @@ variable_none c v e =
 
 -- ---- arrays
 
-abbrev constant_wanted : Bool → Meant → Option Fault
+abbrev pub constant_wanted : Bool → Meant → Option Fault
 constant_wanted bools = if bools then bool_const_test else const_test no_test
 
 abbrev constants_literal : Context → Bool → ℕ → Production (List BasicText)
