@@ -55,7 +55,7 @@ integer_none test v d e h = at_none (test v) (Plain (Number v e) ∷ []) (test_p
 
 -- ---- sets and types, whose tests look at how many numbers stand before
 
-abbrev numbers_listing : (ℕ → ℤ → Option Fault) → Listing Word Fault IntText
+abbrev pub numbers_listing : (ℕ → ℤ → Option Fault) → Listing Word Fault IntText
 numbers_listing test = record {
   is_separator = is_stop Comma;
   separator = Plain (Stop Comma);
@@ -186,7 +186,7 @@ basic_none c S T weaker t e = subst (λ o. known o T ≡ None) (sym (same_meanin
 abbrev pub element_of : Context → Context → (Meant → Option Fault) → List BasicText → BasicText → Option Fault
 element_of c d test kept text = or_else (known (meaning c text) test) (one_more d (length kept))
 
-abbrev elements_listing : (List BasicText → BasicText → Option Fault) → (List BasicText → Option Fault) → Listing Word Fault BasicText
+abbrev pub elements_listing : (List BasicText → BasicText → Option Fault) → (List BasicText → Option Fault) → Listing Word Fault BasicText
 elements_listing element close = record {
   is_separator = is_stop Comma;
   separator = Plain (Stop Comma);
@@ -195,7 +195,7 @@ elements_listing element close = record {
   close = λ kept. tested_mark (is_close Square) (Closes Square) (close kept);
 }
 
-element_none : (c d : Context) (S T : Meant → Option Fault) → ((m : Meant) → S m ≡ None → T m ≡ None) → (kept : List BasicText) (t : BasicText)
+pub element_none : (c d : Context) (S T : Meant → Option Fault) → ((m : Meant) → S m ≡ None → T m ≡ None) → (kept : List BasicText) (t : BasicText)
     → (basic (element_of c d S kept)).fault t ≡ None → (basic (element_of c d T (map plain_text kept))).fault (plain_text t) ≡ None
 element_none c d S T weaker kept t e =
     let p = neither (known (meaning c t) S) (one_more d (length kept)) (test_passes (element_of c d S kept t) (basic_word t ∷ []) e) in
