@@ -186,7 +186,7 @@ arg_again c items named wanted (inr (inr (inr (ArgName bytes)))) e =
     let k = is_known (meant_by c.entries bytes) (argument_test wanted) (test_passes (known (meant_by c.entries bytes) (argument_test wanted)) (Plain (Named bytes) ∷ []) e) in
     ap (λ b. inr (inr (inr (ArgName b)))) (ap (λ l. name_text l (place_of items bytes)) (sym (append-nil items)) ∙ named_text c items [] named bytes k.0 k.1)
 
-map_again : {A B C : Type 0} (f : B → C) (g : A → B) (h : A → C) (xs : List A) → Each (λ x. f (g x) ≡ h x) xs → map f (map g xs) ≡ map h xs
+pub map_again : {A B C : Type 0} (f : B → C) (g : A → B) (h : A → C) (xs : List A) → Each (λ x. f (g x) ≡ h x) xs → map f (map g xs) ≡ map h xs
 map_again f g h [] e = refl
 map_again f g h (x ∷ xs) e = ap (λ y. y ∷ map f (map g xs)) e.0 ∙ ap (λ l. h x ∷ l) (map_again f g h xs e.1)
 
