@@ -29,16 +29,16 @@ use Rattle.fz_facts.proofs.Passes.{not_refused}
 use Rattle.fz_print.specs.Canonical.{further_inside, range_words, ranges_inside}
 use Rattle.fz_print.proofs.Unrefused.{before_none, listed_none}
 
-abbrev Range : Type 0
+abbrev pub Range : Type 0
 Range = IntText × IntText
 
-abbrev as_words : ℤ × ℤ → Range
+abbrev pub as_words : ℤ × ℤ → Range
 as_words r = range_words r.0 r.1
 
-abbrev as_values : Range → ℤ × ℤ
+abbrev pub as_values : Range → ℤ × ℤ
 as_values r = (r.0.0, r.1.0)
 
-abbrev sizes : Listing Word Fault Range
+abbrev pub sizes : Listing Word Fault Range
 sizes = record {
   is_separator = is_stop Comma;
   separator = Plain (Stop Comma);
@@ -49,7 +49,7 @@ sizes = record {
 
 -- ---- reading
 
-sizes_lawful : IsLawful output_ranges
+pub sizes_lawful : IsLawful output_ranges
 sizes_lawful =
     before_mark_lawful (behind_mark (opens Square) (listed sizes)) (closes Round)
     (behind_mark_lawful (opens Square) (listed sizes) (opens_lawful Square)
@@ -82,7 +82,7 @@ further_spell : (first : Range) (kept : List Range) (rs : List (ℤ × ℤ))
 further_spell first kept [] = refl
 further_spell first kept (r ∷ rs) = ap (λ t. Plain (Stop Comma) ∷ ((range no_test).spell (as_words r) ++ t)) (further_spell first (kept ++ as_words r ∷ []) rs)
 
-ranges_spell : (rs : List (ℤ × ℤ)) → output_ranges.spell (map as_words rs) ≡ spell_inside bracketing (Round ∷ []) (Open Square (ranges_inside rs))
+pub ranges_spell : (rs : List (ℤ × ℤ)) → output_ranges.spell (map as_words rs) ≡ spell_inside bracketing (Round ∷ []) (Open Square (ranges_inside rs))
 ranges_spell [] = refl
 ranges_spell (r ∷ rs) = ap (λ t. Opens Square ∷ ((range no_test).spell (as_words r) ++ t)) (further_spell (as_words r) [] rs)
 
