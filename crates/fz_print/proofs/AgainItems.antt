@@ -142,7 +142,8 @@ free_front c kept ys zs e h (inr one) more =
     let first : (item_production c).fault one.0 ≡ None = (subst (Each (λ y. (item_production c).fault y ≡ None)) one.1 h).0 in
     subst (λ l. EachBehind IsFree (kept ++ l) zs → EachBehind IsFree kept (l ++ zs)) (sym one.1) (λ m. (subst (λ d. (item_production d).fault one.0 ≡ None) (sym e) first, m)) more
 
-few : (x : ItemWords) → (clean_item x ≡ []) ⊎ ((y : ItemWords) × (clean_item x ≡ y ∷ []))
+-- an item has one canonical spelling at most
+pub few : (x : ItemWords) → (clean_item x ≡ []) ⊎ ((y : ItemWords) × (clean_item x ≡ y ∷ []))
 few (inl p) = inl refl
 few (inr (inl i)) = inr (_, refl)
 few (inr (inr (inl b))) = inr (_, refl)

@@ -27,7 +27,7 @@ use Rattle.fz_print.proofs.Naming.{AreNamed}
 use Rattle.fz_print.proofs.Printing.{printed_words}
 use Rattle.fz_print.proofs.Unrefused.{EachBehind-each, EachBehind-map, many_none}
 
-abbrev items_repeat : Repeat Word Fault ItemWords Rest
+abbrev pub items_repeat : Repeat Word Fault ItemWords Rest
 items_repeat = record { goes_on = begins_item; item = λ kept. item (context_of kept); close = λ kept. rest_of (context_of kept) }
 
 abbrev constraints_repeat : Context → Repeat Word Fault ConstraintWords (Annotated GoalWords)
