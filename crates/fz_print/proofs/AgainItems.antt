@@ -1,22 +1,21 @@
 -- The words of the items of a model are the canonical spelling of the words that the model was read from.
-use Rattle.std.proofs.Common.{◌≡◌, ℕ, Bool, true, false, if◌then◌else◌, ◌⊎◌, inl, inr, List, [], ◌∷◌, ◌++◌, map, length, Option, Some, None, pos, codes, refl, sym, ◌∙◌, ap, subst, append_assoc, append-nil}
+use Rattle.std.proofs.Common.{◌≡◌, ℕ, Bool, if◌then◌else◌, ◌⊎◌, inl, inr, List, [], ◌∷◌, ◌++◌, map, length, Option, None, codes, refl, sym, ◌∙◌, ap, subst, append_assoc, append-nil}
 use Rattle.std.specs.Prelude.{ℤ}
 use Rattle.std.specs.List.{flat_map}
 use Rattle.std.proofs.lemmas.List.{length-map, map-append}
 use Rattle.dp_base.specs.Lists.{Each}
-use Rattle.fz_model.specs.Annotations.{Annotated}
-use Rattle.fz_model.specs.Arrays.{array_item, constants, count_of, is_bools, type_test, variables}
-use Rattle.fz_model.specs.Context.{BasicText, Context, Name, Truth, Whole, bool_test, int_test, known, meaning, with_elements}
-use Rattle.fz_model.specs.Items.{IntText, TypeWords, basic, basic_word, definition_test, is_bool_type, type_elements, variable_end, variable_item}
+use Rattle.fz_model.specs.Arrays.{array_item, count_of, is_bools, type_test}
+use Rattle.fz_model.specs.Context.{BasicText, Context, Name, Truth, Whole, bool_test, int_test, meaning, with_elements}
+use Rattle.fz_model.specs.Items.{TypeWords, basic, basic_word, definition_test, is_bool_type, type_elements, variable_end}
 use Rattle.fz_model.specs.Limits.{beyond_small}
 use Rattle.fz_model.specs.Marks.{stop}
-use Rattle.fz_model.specs.ModelText.{ArrayWords, ItemWords, VariableWords, after_item, after_items, closing, context_of, item as item_production, nothing}
+use Rattle.fz_model.specs.ModelText.{ArrayWords, ItemWords, after_item, after_items, closing, context_of, item as item_production, nothing}
 use Rattle.fz_model.specs.Models.{basic_of_text, definition_of, elements_of, is_noted, item_of, items_behind, notes_of, output_of, type_of}
 use Rattle.fz_model.specs.Words.{Semicolon}
 use Rattle.fz_model.specs.declared.model.Item.{Item}
 use Rattle.fz_facts.proofs.Faults.{EachBehind, before_parts, test_passes}
 use Rattle.fz_facts.proofs.Passes.{is_known}
-use Rattle.fz_print.specs.Canonical.{basic_words, definition_words, item_words, kind_words, marked, plain, size_words, sized, type_words}
+use Rattle.fz_print.specs.Canonical.{definition_words, item_words, kind_words, marked, plain, size_words, sized, type_words}
 use Rattle.fz_print.proofs.Cleaned.{IsKnown, are_so_many, elements_known, plain_text}
 use Rattle.fz_print.proofs.CleanItems.{array_parts, clean_definition, clean_item, constant_wanted, constants_parts, item_none, variable_parts, variables_parts}
 use Rattle.fz_print.proofs.CleanTwins.{item_after, item_same}
@@ -111,7 +110,7 @@ items_again all c items kept (x ∷ xs) e named h is =
     let f = further_items next xs in
     let whole : (items ++ (item_of items x ++ f.0)) ≡ all = sym (append_assoc items (item_of items x) f.0) ∙ sym f.1 ∙ is in
     let one : map (item_words all) (item_of items x) ≡ clean_item x =
-        subst (λ a. map (item_words a) (item_of items x) ≡ clean_item x) whole (item_again c items (item_of items x ++ f.0) named x free) in
+    subst (λ a. map (item_words a) (item_of items x) ≡ clean_item x) whole (item_again c items (item_of items x ++ f.0) named x free) in
     items_again all (after_item c x) next (kept ++ x ∷ []) xs (after_one nothing kept x ∙ ap (λ d. after_item d x) e) (named_more c items x named) h.1 is
     ∙ ap (λ l. l ++ flat_map clean_item xs) (map-append (item_words all) items (item_of items x))
     ∙ append_assoc (map (item_words all) items) (map (item_words all) (item_of items x)) (flat_map clean_item xs)

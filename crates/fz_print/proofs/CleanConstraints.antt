@@ -1,5 +1,5 @@
 -- Constraints and the goal in their canonical spelling.
-use Rattle.std.proofs.Common.{◌≡◌, ℕ, ◌+◌, ◌&&◌, Bool, true, false, not, if◌then◌else◌, ◌⊎◌, inl, inr, List, [], ◌∷◌, ◌++◌, map, length, Option, Some, None, nat_le, nat_lt, refl, sym, ◌∙◌, ap, subst, append-nil}
+use Rattle.std.proofs.Common.{◌≡◌, ℕ, ◌+◌, ◌&&◌, true, false, not, ◌⊎◌, inl, inr, List, [], ◌∷◌, map, length, Option, Some, None, nat_le, nat_lt, refl, sym, ◌∙◌, ap, subst, append-nil}
 use Rattle.std.specs.Prelude.{ℤ, is_none, slice_get, sum}
 use Rattle.std.specs.List.{cons_option, filter_map, list_any}
 use Rattle.std.proofs.lemmas.List.{length-map}
@@ -11,9 +11,8 @@ use Rattle.dp_grammar.specs.Leaf.{leaf, tested_mark}
 use Rattle.dp_grammar.specs.Listed.{Listing, listed}
 use Rattle.fz_token.specs.declared.Keyword.TheVariants as key
 use Rattle.fz_model.specs.Annotations.{Annotated, annotated}
-use Rattle.fz_model.specs.Constraints.{ArgName, ArgText, ArgTruth, ArgWhole, ArgWords, ConstraintWords, all_equal, arg_basic, arg_word, argument, argument_test, arguments, array_arg, array_length, behind, behind_constraints, close_test, constraint_item, dotted_of, element_test, elements_in, kind_named, pairs_arrays, range_arg, set_arg, text_arg, wants_array, wants_set}
-use Rattle.fz_model.specs.Context.{BasicText, Context, Name, goal_test, known, meaning, meant_by, one_more}
-use Rattle.fz_model.specs.Items.{IntText}
+use Rattle.fz_model.specs.Constraints.{ArgName, ArgTruth, ArgWhole, ArgWords, ConstraintWords, all_equal, argument, argument_test, arguments, array_length, behind, behind_constraints, close_test, constraint_item, dotted_of, element_test, elements_in, kind_named, pairs_arrays, wants_array, wants_set}
+use Rattle.fz_model.specs.Context.{BasicText, Context, goal_test, known, meant_by, one_more}
 use Rattle.fz_model.specs.Limits.{max_constraints, no_test, or_else, refuse_if}
 use Rattle.fz_model.specs.Literals.{integer, name}
 use Rattle.fz_model.specs.Marks.{Production, is_close, is_key, is_open, is_stop, keyword, stop}
@@ -25,19 +24,17 @@ use Rattle.fz_model.specs.declared.fault.Fault.{Fault}
 use Rattle.fz_model.specs.declared.fault.Fault.TheVariants.{Kind, Limit, Unsupported}
 use Rattle.fz_model.specs.declared.kinds.ArgKind.{ArgKind}
 use Rattle.fz_model.specs.declared.kinds.ConstraintKind.{ConstraintKind}
-use Rattle.fz_model.specs.declared.model.Constraint.{Constraint}
-use Rattle.fz_model.specs.declared.model.Expr.{Expr}
 use Rattle.fz_model.specs.declared.model.Expr.TheVariants as expr
 use Rattle.fz_model.specs.declared.model.Item.{Item}
 use Rattle.fz_model.specs.declared.model.SetText.TheVariants as set
-use Rattle.fz_facts.proofs.Faults.{EachBehind, before_parts, chain_parts, listed_parts, test_passes}
+use Rattle.fz_facts.proofs.Faults.{before_parts, chain_parts, listed_parts, test_passes}
 use Rattle.fz_facts.proofs.Passes.{is_known}
-use Rattle.fz_print.specs.Canonical.{arg_words, basic_words, constraint_words, goal_words, number_words, plain}
+use Rattle.fz_print.specs.Canonical.{arg_words, basic_words, constraint_words, goal_words, plain}
 use Rattle.fz_print.specs.Printed.{name_text}
 use Rattle.fz_print.proofs.Cleaned.{IsKnown, element_none, element_of, elements_known, elements_listing, numbers_listing, numbers_none, plain_number, plain_text, same_elements, same_numbers, same_values}
 use Rattle.fz_print.proofs.CleanItems.{annotated_notes}
 use Rattle.fz_print.proofs.Naming.{AreNamed, elements_again, named_text}
-use Rattle.fz_print.proofs.Unrefused.{EachBehind-each, before_none, chain_none, listed_map}
+use Rattle.fz_print.proofs.Unrefused.{EachBehind-each, chain_none, listed_map}
 
 -- ---- arguments
 
@@ -116,10 +113,10 @@ arguments_none : (c : Context) (kind : ConstraintKind) (xs : List ArgWords) → 
 arguments_none c kind xs e =
     listed_map (args_listing c kind) (args_listing c kind) clean_arg
     (λ kept x h. subst (λ d. (argument d (slice_get (args_of kind) (length (map clean_arg kept)))).fault (clean_arg x) ≡ None) (sym (same_behind c kept))
-        (subst (λ n. (argument (behind c kept) (slice_get (args_of kind) n)).fault (clean_arg x) ≡ None) (sym (length-map kept clean_arg))
-        (argument_none (behind c kept) (slice_get (args_of kind) (length kept)) x h)))
+    (subst (λ n. (argument (behind c kept) (slice_get (args_of kind) n)).fault (clean_arg x) ≡ None) (sym (length-map kept clean_arg))
+    (argument_none (behind c kept) (slice_get (args_of kind) (length kept)) x h)))
     (λ ys h. subst (λ l. (closes_with kind (length (map clean_arg ys)) l).fault tt ≡ None) (sym (same_lengths c ys))
-        (subst (λ n. (closes_with kind n (filter_map (array_length c) ys)).fault tt ≡ None) (sym (length-map ys clean_arg)) h))
+    (subst (λ n. (closes_with kind n (filter_map (array_length c) ys)).fault tt ≡ None) (sym (length-map ys clean_arg)) h))
     xs e
 
 -- ---- constraints
@@ -163,7 +160,7 @@ constraint_none c kept q e =
     let p = constraint_parts c kept q e in
     let same : behind_constraints c kept ≡ behind_constraints c (map clean_constraint kept) = ap (with_more c) (sym (same_sums kept)) in
     let args : (listed (args_listing (behind_constraints c (map clean_constraint kept)) (kind_named q.0))).fault (map clean_arg q.1.0) ≡ None =
-        subst (λ d. (listed (args_listing d (kind_named q.0))).fault (map clean_arg q.1.0) ≡ None) same (arguments_none (behind_constraints c kept) (kind_named q.0) q.1.0 p.args) in
+    subst (λ d. (listed (args_listing d (kind_named q.0))).fault (map clean_arg q.1.0) ≡ None) same (arguments_none (behind_constraints c kept) (kind_named q.0) q.1.0 p.args) in
     chain_none (limited (length (map clean_constraint kept))) (λ _. behind_key (behind_constraints c (map clean_constraint kept))) (tt, clean_constraint q)
     (subst (λ n. (limited n).fault tt ≡ None) (sym (length-map kept clean_constraint)) p.limited)
     (chain_none supported (behind_name (behind_constraints c (map clean_constraint kept))) (clean_constraint q) p.supported
@@ -195,7 +192,7 @@ pub constraint_again : (c : Context) (items : List Item) → AreNamed c items �
 constraint_again c items named kept q e =
     let p = listed_parts (args_listing (behind_constraints c kept) (kind_named q.0)) q.1.0 (constraint_parts c kept q e).args in
     let each = EachBehind-each (λ before x. ((args_listing (behind_constraints c kept) (kind_named q.0)).item before).fault x ≡ None) (λ a. arg_words items (expr_of items a) ≡ clean_arg a)
-        (λ before x h. arg_again (behind (behind_constraints c kept) before) items named (slice_get (args_of (kind_named q.0)) (length before)) x h) [] q.1.0 p.0 in
+    (λ before x h. arg_again (behind (behind_constraints c kept) before) items named (slice_get (args_of (kind_named q.0)) (length before)) x h) [] q.1.0 p.0 in
     ap (λ l. (q.0, (l, plain tt))) (map_again (arg_words items) (expr_of items) clean_arg q.1.0 each)
 
 same_expr : (items : List Item) (a : ArgWords) → expr_of items (clean_arg a) ≡ expr_of items a

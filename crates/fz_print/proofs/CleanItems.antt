@@ -1,6 +1,5 @@
 -- Items in their canonical spelling: they pass the tests that the same items pass in other spellings, and declare the same.
-use Rattle.std.proofs.Common.{◌≡◌, ℕ, ◌+◌, Bool, true, false, if◌then◌else◌, ◌⊎◌, inl, inr, List, [], ◌∷◌, ◌++◌, map, length, Option, Some, None, ℤ, pos, find, codes, refl, sym, ◌∙◌, ap, subst}
-use Rattle.std.proofs.lemmas.List.{length-map}
+use Rattle.std.proofs.Common.{◌≡◌, ℕ, Bool, true, false, if◌then◌else◌, ◌⊎◌, inl, inr, List, [], ◌∷◌, ◌++◌, map, length, Option, Some, None, ℤ, pos, find, codes, refl, sym, ◌∙◌, subst}
 use Rattle.dp_base.specs.Lists.{Each}
 use Rattle.dp_grammar.specs.Brackets.{Plain}
 use Rattle.dp_grammar.specs.Chain.{chain, behind_mark}
@@ -10,20 +9,19 @@ use Rattle.fz_token.specs.declared.Keyword.TheVariants as key
 use Rattle.fz_model.specs.Annotations.{Annotation, Annotated, Balanced, Close, annotated, annotation_link, link_parts, parts_with}
 use Rattle.fz_model.specs.Arrays.{array_item, array_size, constants, constant_element, count_of, elements_end, is_bools, notes_test, output_test, size_test, type_test, variable_element, variables}
 use Rattle.fz_model.specs.Context.{BasicText, Context, bool_const_test, bool_test, const_test, fresh, fresh_variable, int_test, known, meaning, one_more, with_elements}
-use Rattle.fz_model.specs.Items.{IntText, SetWords, TypeWords, array_literal, basic, basic_word, defined, definition_test, domain_test, is_bool_type, is_int_type, parameter, set_elements, truth, type_elements, variable_end, variable_item}
+use Rattle.fz_model.specs.Items.{IntText, TypeWords, array_literal, basic, basic_word, defined, definition_test, domain_test, is_bool_type, parameter, truth, type_elements, variable_end, variable_item}
 use Rattle.fz_model.specs.Limits.{beyond_small, no_test, or_else, refuse_if}
 use Rattle.fz_model.specs.Literals.{integer, name, set_literal, var_type}
 use Rattle.fz_model.specs.Marks.{Production, is_key, is_stop, keyword, stop}
-use Rattle.fz_model.specs.ModelText.{ArrayWords, ItemWords, VariableWords, after_item, array_of, bool_constant, closing, declares, int_constant, item as item_production}
-use Rattle.fz_model.specs.Models.{is_noted, item_of, notes_of, output_of, ranges_of, set_of, type_of}
-use Rattle.fz_model.specs.Words.{Colon, Named, Semicolon, Stop, Word}
+use Rattle.fz_model.specs.ModelText.{ArrayWords, ItemWords, VariableWords, closing, item as item_production}
+use Rattle.fz_model.specs.Models.{is_noted, notes_of, output_of, set_of, type_of}
+use Rattle.fz_model.specs.Words.{Colon, Semicolon, Stop, Word}
 use Rattle.fz_model.specs.declared.fault.Fault.{Fault}
 use Rattle.fz_model.specs.declared.fault.Fault.TheVariants.{Unbounded}
 use Rattle.fz_model.specs.declared.meant.Meant.{Meant}
-use Rattle.fz_model.specs.declared.meant.Meant.TheVariants as meant
 use Rattle.fz_facts.proofs.Faults.{before_parts, chain_parts, test_passes}
 use Rattle.fz_print.specs.Canonical.{kind_words, marked, plain, set_words, size_words, sized, type_words}
-use Rattle.fz_print.proofs.Cleaned.{IsKnown, are_so_many, basic_none, element_of, elements_known, elements_none, plain_text, same_bool_type, same_elements, same_int_type, same_meaning, same_set_elements, same_type_elements, same_type_test, set_none, so_many, type_none}
+use Rattle.fz_print.proofs.Cleaned.{are_so_many, basic_none, element_of, elements_none, plain_text, same_bool_type, same_int_type, same_type_elements, same_type_test, set_none, so_many, type_none}
 use Rattle.fz_print.proofs.Outputs.{fits_again, is_sized, sized_notes}
 use Rattle.fz_print.proofs.Unrefused.{at_none, before_none, chain_none, links_end}
 
@@ -172,7 +170,7 @@ ended_none : (c : Context) (size : IntText) (t : TypeWords) (n : List ℕ) (a : 
 ended_none c size t n a p k same =
     let many = so_many (element_of (with_elements c (type_elements t)) (with_elements c (type_elements t)) (type_test t)) (count_of size.0) (closing a) p.elements in
     let notes : notes_test (pos (length (closing a)), false) (sized_notes (output_of (notes_of a))) ≡ None =
-        subst (λ m. output_test m (find is_sized (sized_notes (output_of (notes_of a)))) ≡ None) (sym many) (fits_again (count_of size.0) (find is_sized (notes_of a)) p.notes) in
+    subst (λ m. output_test m (find is_sized (sized_notes (output_of (notes_of a)))) ≡ None) (sym many) (fits_again (count_of size.0) (find is_sized (notes_of a)) p.notes) in
     before_none (array_literal (variable_element (with_elements c k) (type_words (type_of t))) (size_test (pos (length (closing a)), false))) (ending (pos (length (closing a)), false) (sized_notes (output_of (notes_of a)))) (map plain_text (closing a))
     (subst (λ j. (variables_literal (with_elements c j) (type_words (type_of t)) (length (closing a))).fault (map plain_text (closing a)) ≡ None) same
     (elements_none (with_elements c (type_elements t)) (with_elements c (type_elements t)) (type_test t) (type_test (type_words (type_of t))) (λ m h. same_type_test t m ∙ h) (count_of size.0) (closing a) p.elements))

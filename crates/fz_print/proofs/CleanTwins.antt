@@ -1,18 +1,17 @@
 -- Items in their canonical spelling declare the same, and are the same items.
-use Rattle.std.proofs.Common.{◌≡◌, ℕ, ◌+◌, Bool, true, false, if◌then◌else◌, ◌⊎◌, inl, inr, List, [], ◌∷◌, ◌++◌, map, length, Option, Some, None, ℤ, pos, codes, refl, sym, ◌∙◌, ap, append-nil}
+use Rattle.std.proofs.Common.{◌≡◌, ℕ, ◌+◌, Bool, true, false, if◌then◌else◌, ◌⊎◌, inl, inr, List, [], ◌∷◌, ◌++◌, map, length, Option, Some, None, ℤ, codes, refl, sym, ◌∙◌, ap, append-nil}
 use Rattle.std.proofs.lemmas.List.{length-map}
-use Rattle.fz_model.specs.Annotations.{Annotated}
 use Rattle.fz_model.specs.Context.{BasicText, Context, meaning, with_elements}
 use Rattle.fz_model.specs.Items.{TypeWords, is_bool_type, type_elements}
 use Rattle.fz_model.specs.Arrays.{is_bools}
-use Rattle.fz_model.specs.ModelText.{ArrayWords, ItemWords, VariableWords, after_constants, after_item, after_items, array_of, bool_constant, closing, declares, int_constant}
-use Rattle.fz_model.specs.Models.{basic_of_text, definition_of, elements_of, is_noted, item_of, items_behind, notes_of, number_of, output_of, set_of, type_of}
+use Rattle.fz_model.specs.ModelText.{ItemWords, VariableWords, after_constants, after_item, after_items, array_of, bool_constant, closing, declares, int_constant}
+use Rattle.fz_model.specs.Models.{definition_of, elements_of, is_noted, item_of, items_behind, notes_of, number_of, output_of, set_of, type_of}
 use Rattle.fz_model.specs.declared.meant.Meant.{Meant}
 use Rattle.fz_model.specs.declared.meant.Meant.TheVariants as meant
 use Rattle.fz_model.specs.declared.model.Basic.{Basic}
 use Rattle.fz_model.specs.declared.model.Item.{Item}
 use Rattle.fz_model.specs.declared.model.Item.TheVariants as item
-use Rattle.fz_print.specs.Canonical.{kind_words, marked, set_words, sized, type_words}
+use Rattle.fz_print.specs.Canonical.{kind_words, marked, sized, type_words}
 use Rattle.fz_print.proofs.Cleaned.{plain_text, same_basic, same_bool_type, same_elements, same_meaning, same_set_elements, same_type_elements, set_again, type_again}
 use Rattle.fz_print.proofs.CleanItems.{clean_definition, clean_item}
 use Rattle.fz_print.proofs.Outputs.{output_again, sized_notes}

@@ -1,5 +1,5 @@
 -- The words of the canonical spelling of sets, types and elements pass the tests that other words of the same pass.
-use Rattle.std.proofs.Common.{◌≡◌, ℕ, ◌+◌, ◌==◌, Bool, true, false, not, ◌&&◌, ◌||◌, if◌then◌else◌, ◌⊎◌, inl, inr, List, [], ◌∷◌, ◌++◌, map, length, Option, Some, None, ℤ, pos, refl, sym, ◌∙◌, ap, subst, eq-eqb}
+use Rattle.std.proofs.Common.{◌≡◌, ℕ, ◌==◌, Bool, true, false, not, ◌&&◌, ◌||◌, inl, inr, List, [], ◌∷◌, map, length, Option, Some, None, ℤ, refl, sym, ◌∙◌, ap, subst}
 use Rattle.std.specs.List.{list_any}
 use Rattle.std.specs.Int.Signed.{lt_z}
 use Rattle.std.proofs.lemmas.Bool.{eqb-true, not-false}
@@ -7,20 +7,19 @@ use Rattle.std.proofs.lemmas.List.{length-map}
 use Rattle.dp_base.specs.Lists.{Each}
 use Rattle.dp_grammar.specs.Brackets.{Plain, Closes}
 use Rattle.dp_grammar.specs.Chain.{behind_mark}
-use Rattle.dp_grammar.specs.Leaf.{fault_at, tested_mark}
+use Rattle.dp_grammar.specs.Leaf.{tested_mark}
 use Rattle.dp_grammar.specs.Listed.{Listing, listed}
-use Rattle.fz_model.specs.Arrays.{count_of, is_in, size_test, type_test}
+use Rattle.fz_model.specs.Arrays.{type_test}
 use Rattle.fz_model.specs.Context.{BasicText, Context, Truth, Whole, Name, known, meaning, one_more}
 use Rattle.fz_model.specs.Items.{IntText, SetWords, TypeWords, array_literal, basic, basic_word, is_bool_type, is_int_type, set_elements, type_elements}
 use Rattle.fz_model.specs.Limits.{or_else, refuse_if}
 use Rattle.fz_model.specs.Literals.{integer, range, set_literal, var_type}
 use Rattle.fz_model.specs.Marks.{closes, is_close, is_stop, stop}
-use Rattle.fz_model.specs.Models.{basic_of_text, elements_of, set_of, set_type_of, type_of}
+use Rattle.fz_model.specs.Models.{basic_of_text, elements_of, set_of, type_of}
 use Rattle.fz_model.specs.Words.{Square, Curly, Comma, DoubleDot, Number, Stop, Word}
 use Rattle.fz_model.specs.declared.fault.Fault.{Fault}
 use Rattle.fz_model.specs.declared.fault.Fault.TheVariants.{Kind}
 use Rattle.fz_model.specs.declared.meant.Meant.{Meant}
-use Rattle.fz_model.specs.declared.model.Basic.{Basic}
 use Rattle.fz_model.specs.declared.model.Item.{Item}
 use Rattle.fz_model.specs.declared.meant.Meant.TheVariants as meant
 use Rattle.fz_model.specs.declared.model.SetText.{SetText}
@@ -219,7 +218,7 @@ elements_none c d S T weaker n ts e =
     (listed_map (elements_listing (element_of c d S) (are_so_many n)) (elements_listing (element_of c d T) (are_so_many n)) plain_text
     (element_none c d S T weaker)
     (λ xs h. at_none (are_so_many n (map plain_text xs)) (Closes Square ∷ [])
-        (subst (λ k. refuse_if (not (k == n)) Kind ≡ None) (sym (length-map xs plain_text)) (test_passes (are_so_many n xs) (Closes Square ∷ []) h)))
+    (subst (λ k. refuse_if (not (k == n)) Kind ≡ None) (sym (length-map xs plain_text)) (test_passes (are_so_many n xs) (Closes Square ∷ []) h)))
     ts e)
 
 pub elements_known : (c d : Context) (S : Meant → Option Fault) (close : List BasicText → Option Fault) (ts : List BasicText)

@@ -1,6 +1,6 @@
 -- Single tokens in front of a text: marks, words and numbers.
-use Rattle.std.proofs.Common.{◌≡◌, ℕ, suc, ◌+◌, ◌<◌, ◌≤◌, Bool, true, false, not, ◌&&◌, ◌||◌, ◌==◌, if◌then◌else◌, List, [], ◌∷◌, ◌++◌, length, take, drop, map, get_or, Option, Some, None, Ok, find, bytes_eq, codes, refl, sym, ◌∙◌, ap, subst, arith}
-use Rattle.std.specs.List.{AllPass, list_all, list_any, prefix_len}
+use Rattle.std.proofs.Common.{◌≡◌, ℕ, ◌+◌, ◌<◌, Bool, true, false, not, ◌==◌, List, [], ◌∷◌, ◌++◌, length, take, map, get_or, Some, None, Ok, find, bytes_eq, codes, refl, sym, ◌∙◌, ap, subst, arith}
+use Rattle.std.specs.List.{AllPass, list_all, list_any}
 use Rattle.std.proofs.lemmas.Bool.{and_parts, not-true, or_parts}
 use Rattle.std.proofs.lemmas.Bool.Decides.{nat_tests}
 use Rattle.std.proofs.lemmas.List.Sums.{AllPass-from_list_all}
@@ -8,7 +8,7 @@ use Rattle.std.proofs.lemmas.Slice.Eq.{bytes_eq-Decides}
 use Rattle.std.proofs.Math.Seq.{take-append_seam}
 use Rattle.dp_base.specs.Names.{is_first, is_later, is_name, is_word, keywords}
 use Rattle.dp_grammar.specs.Brackets.{Plain, Opens, Closes}
-use Rattle.fz_token.specs.Gap.{gap_end, is_blank}
+use Rattle.fz_token.specs.Gap.{gap_end}
 use Rattle.fz_token.specs.Token.{token_at}
 use Rattle.fz_token.specs.Word.{all_keywords, begins_word, is_word_byte, keyword_of, spelling, word_at, word_kind, word_len}
 use Rattle.fz_token.specs.declared.Keyword.{Keyword}

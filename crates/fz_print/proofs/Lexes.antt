@@ -1,15 +1,15 @@
 -- The words of a text, piece by piece from its end: what they are behind any front.
-use Rattle.std.proofs.Common.{◌≡◌, ℕ, suc, ◌+◌, ◌-◌, ◌<◌, ◌≤◌, Bool, true, false, List, [], ◌∷◌, ◌++◌, length, take, drop, None, Ok, refl, sym, ◌∙◌, ap, subst, arith, append_assoc}
+use Rattle.std.proofs.Common.{◌≡◌, ℕ, ◌+◌, ◌-◌, ◌<◌, ◌≤◌, Bool, false, List, [], ◌∷◌, ◌++◌, length, take, drop, None, Ok, refl, sym, ◌∙◌, ap, subst, arith, append_assoc}
 use Rattle.std.proofs.lemmas.List.{length-append}
 use Rattle.std.proofs.Math.Seq.{take-append_seam, drop-append_seam}
 use Rattle.fz_token.specs.Gap.{gap_end}
-use Rattle.fz_token.specs.Stream.{Stream, nothing, start_after, stream_from, with_token}
+use Rattle.fz_token.specs.Stream.{Stream, nothing, stream_from, with_token}
 use Rattle.fz_token.specs.Token.{token_at}
 use Rattle.fz_token.specs.declared.Mark.TheVariants as mark
 use Rattle.fz_token.specs.declared.Token.{Token}
 use Rattle.fz_token.specs.declared.TokenKind.{TokenKind}
 use Rattle.fz_token.specs.declared.TokenKind.TheVariants as kind
-use Rattle.fz_token.proofs.Streams.{gap_end-ge, stream_ends, stream_token}
+use Rattle.fz_token.proofs.Streams.{stream_ends, stream_token}
 use Rattle.fz_model.specs.Marks.{is_stop}
 use Rattle.fz_model.specs.Words.{DoubleDot, Word, begins_dotted, is_double_dot, kind_word, words}
 
@@ -107,9 +107,10 @@ lexes_token t s ws k some begins led h front =
     let rest = stream_from ((front ++ t) ++ s) 0 (gap_end (length (front ++ t)) false s) in
     let g = h (front ++ t) in
     let text = front ++ (t ++ s) in
-    let same : words text rest.tokens ≡ ws = ap (λ u. words u rest.tokens) (same_front front t s) ∙ g.1 in
-    (ap (λ (s : Stream). s.refusal) e ∙ g.0,
-     ap (λ (s : Stream). words text s.tokens) e
-     ∙ ap (λ u. kind_word u (begins_dotted rest.tokens) k ∷ words text rest.tokens) (token_bytes t s front)
-     ∙ ap (λ d. kind_word t d k ∷ words text rest.tokens) (dotted_is text rest.tokens)
-     ∙ ap (λ us. kind_word t (is_dotted us) k ∷ us) same)
+    let same : words text rest.tokens ≡ ws = ap (λ u. words u rest.tokens) (same_front front t s) ∙ g.1 in (
+      ap (λ (s : Stream). s.refusal) e ∙ g.0,
+      ap (λ (s : Stream). words text s.tokens) e
+          ∙ ap (λ u. kind_word u (begins_dotted rest.tokens) k ∷ words text rest.tokens) (token_bytes t s front)
+          ∙ ap (λ d. kind_word t d k ∷ words text rest.tokens) (dotted_is text rest.tokens)
+          ∙ ap (λ us. kind_word t (is_dotted us) k ∷ us) same,
+    )

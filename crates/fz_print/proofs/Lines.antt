@@ -1,46 +1,35 @@
 -- Items, constraints and the goal in front of a text.
-use Rattle.std.proofs.Common.{◌≡◌, ℕ, ◌≤◌, Bool, true, false, if◌then◌else◌, inl, inr, List, [], ◌∷◌, ◌++◌, map, length, Option, Some, None, codes, refl, sym, ◌∙◌, ap, subst, append_assoc, arith}
-use Rattle.std.specs.Prelude.{ℤ, pos, slice_get}
-use Rattle.std.specs.Fmt.{decimal}
+use Rattle.std.proofs.Common.{◌≡◌, ℕ, ◌≤◌, Bool, true, false, if◌then◌else◌, List, [], ◌∷◌, ◌++◌, map, length, Option, Some, None, codes, refl, sym, ap, subst, append_assoc, arith}
+use Rattle.std.specs.Prelude.{ℤ, pos}
 use Rattle.std.proofs.lemmas.Fmt.{decimal_digit}
 use Rattle.dp_base.specs.Lists.{Each}
 use Rattle.dp_base.specs.Names.{is_name}
 use Rattle.dp_base.proofs.Lists.{Each-append_parts}
 use Rattle.dp_grammar.specs.Brackets.{Plain, Opens, Closes, spell_inside}
-use Rattle.dp_grammar.specs.Leaf.{tested_mark}
-use Rattle.dp_grammar.specs.Listed.{Listing, listed}
 use Rattle.fz_token.specs.Number.{limit}
 use Rattle.fz_token.specs.Word.{keyword_of}
 use Rattle.fz_token.specs.declared.Keyword.TheVariants as key
-use Rattle.fz_model.specs.Annotations.{Annotation, annotated}
+use Rattle.fz_model.specs.Annotations.{annotated}
 use Rattle.fz_model.specs.Arrays.{constant_element, elements_end, size_test, variable_element}
-use Rattle.fz_model.specs.Constraints.{ArgWords, argument, arguments, behind, close_test, constraint_item}
 use Rattle.fz_model.specs.Context.{BasicText, Context, one_more, with_elements}
-use Rattle.fz_model.specs.Items.{IntText, TypeWords, array_literal, definition_test, domain_test, type_elements, variable_end}
+use Rattle.fz_model.specs.Items.{IntText, TypeWords, array_literal, domain_test, type_elements, variable_end}
 use Rattle.fz_model.specs.Limits.{beyond_small, no_test}
 use Rattle.fz_model.specs.Literals.{set_literal, var_type}
-use Rattle.fz_model.specs.Marks.{is_close, is_stop}
-use Rattle.fz_model.specs.ModelText.{item as item_production, solve_item}
-use Rattle.fz_model.specs.Table.{args_of}
-use Rattle.fz_model.specs.Words.{Round, Square, Colon, Comma, DoubleColon, DoubleDot, Equals, IsSpelled, Key, Named, Number, Semicolon, Stop, Word, bracketing}
+use Rattle.fz_model.specs.ModelText.{item as item_production}
+use Rattle.fz_model.specs.Words.{Round, Square, Colon, DoubleColon, DoubleDot, Equals, IsSpelled, Key, Named, Number, Semicolon, Stop, Word, bracketing}
 use Rattle.fz_model.specs.declared.fault.Fault.{Fault}
-use Rattle.fz_model.specs.declared.kinds.ConstraintKind.{ConstraintKind}
 use Rattle.fz_model.specs.declared.model.Basic.{Basic}
-use Rattle.fz_model.specs.declared.model.Constraint.{Constraint}
-use Rattle.fz_model.specs.declared.model.Expr.{Expr}
 use Rattle.fz_model.specs.declared.model.Item.{Item}
 use Rattle.fz_model.specs.declared.model.Item.TheVariants as item
-use Rattle.fz_model.specs.declared.model.ModelGoal.{ModelGoal}
-use Rattle.fz_model.specs.declared.model.ModelGoal.TheVariants as goal
 use Rattle.fz_model.specs.declared.model.SetText.{SetText}
 use Rattle.fz_model.specs.declared.model.VarType.{VarType}
-use Rattle.fz_print.specs.Canonical.{arg_words, basic_words, constraint_words, definition_words, goal_words, item_words, marked, ranges_inside, set_words, sized, type_words}
-use Rattle.fz_print.specs.Printed.{arguments_text, basic_text, constraint_text, definition_text, elements_text, expr_text, goal_text, integer_text, item_text, kind_text, line_end, list_text, mark_text, name_text, range_text, ranges_text, set_text, size_text, truth_text, type_text}
-use Rattle.fz_print.proofs.Lexemes.{EndsWord, lexes_close_round, lexes_close_square, lexes_colon, lexes_double_colon, lexes_double_dot, lexes_equals, lexes_key, lexes_line, lexes_name, lexes_open_round, lexes_open_square, lexes_plain, lexes_semicolon, lexes_space}
-use Rattle.fz_print.proofs.Lexes.{Lexes, is_dotted}
-use Rattle.fz_print.proofs.Lists.{IsPrinted, lexes_as, lexes_basic, lexes_number, lexes_range, listed_lexes}
+use Rattle.fz_print.specs.Canonical.{basic_words, definition_words, item_words, marked, ranges_inside, set_words, sized, type_words}
+use Rattle.fz_print.specs.Printed.{basic_text, definition_text, elements_text, integer_text, item_text, line_end, list_text, mark_text, range_text, ranges_text, set_text, size_text, truth_text, type_text}
+use Rattle.fz_print.proofs.Lexemes.{EndsWord, lexes_close_square, lexes_colon, lexes_double_colon, lexes_double_dot, lexes_equals, lexes_key, lexes_line, lexes_name, lexes_open_round, lexes_open_square, lexes_semicolon, lexes_space}
+use Rattle.fz_print.proofs.Lexes.{Lexes}
+use Rattle.fz_print.proofs.Lists.{lexes_as, lexes_basic, lexes_number}
 use Rattle.fz_print.proofs.Numerals.{EndsNumber, lexes_integer}
-use Rattle.fz_print.proofs.Parts.{lexes_argument, lexes_elements, lexes_ranges, lexes_set, lexes_type}
+use Rattle.fz_print.proofs.Parts.{lexes_elements, lexes_ranges, lexes_set, lexes_type}
 use Rattle.fz_print.proofs.Pieces.{flat_nine, flat_seven, flat_three}
 
 -- ---- what items share
@@ -173,7 +162,7 @@ consts_lexes c all n true es s ws spelled h =
     let l = (array_literal (constant_element c true) (size_test (pos (length es), false))).spell (map (basic_words all) es) in
     let parts = Each-append_parts IsSpelled l (Plain (Stop Semicolon) ∷ []) named.1.1 in
     let right : size_text (length es) ++ (codes "bool" ++ (58 ∷ 32 ∷ (n ++ (32 ∷ 61 ∷ 32 ∷ (elements_text all es ++ 59 ∷ 10 ∷ s))))) ≡ (item_text all (item.Consts n true es) ++ line_end) ++ s =
-        sym (flat_seven (size_text (length es)) (codes "bool") (codes ": ") n (codes " = ") (elements_text all es) line_end s) in
+    sym (flat_seven (size_text (length es)) (codes "bool") (codes ": ") n (codes " = ") (elements_text all es) line_end s) in
     subst (λ t. Lexes t ((item_production c).spell (item_words all (item.Consts n true es)) ++ ws)) right
     (lexes_size (length es) _ _ spelled.1.1.1.1.0 (lexes_key key.Bool _ _ refl
     (lexes_named n _ _ named.0 refl (lexes_ended all (constant_element c true) (size_test (pos (length es), false)) es s ws parts.0 h))))
@@ -182,7 +171,7 @@ consts_lexes c all n false es s ws spelled h =
     let l = (array_literal (constant_element c false) (size_test (pos (length es), false))).spell (map (basic_words all) es) in
     let parts = Each-append_parts IsSpelled l (Plain (Stop Semicolon) ∷ []) named.1.1 in
     let right : size_text (length es) ++ (codes "int" ++ (58 ∷ 32 ∷ (n ++ (32 ∷ 61 ∷ 32 ∷ (elements_text all es ++ 59 ∷ 10 ∷ s))))) ≡ (item_text all (item.Consts n false es) ++ line_end) ++ s =
-        sym (flat_seven (size_text (length es)) (codes "int") (codes ": ") n (codes " = ") (elements_text all es) line_end s) in
+    sym (flat_seven (size_text (length es)) (codes "int") (codes ": ") n (codes " = ") (elements_text all es) line_end s) in
     subst (λ t. Lexes t ((item_production c).spell (item_words all (item.Consts n false es)) ++ ws)) right
     (lexes_size (length es) _ _ spelled.1.1.1.1.0 (lexes_key key.Int _ _ refl
     (lexes_named n _ _ named.0 refl (lexes_ended all (constant_element c false) (size_test (pos (length es), false)) es s ws parts.0 h))))
@@ -203,7 +192,7 @@ lexes_sized c all size t (Some rs) es s ws spelled h =
     let more = Each-append_parts IsSpelled l (Plain (Stop Semicolon) ∷ []) parts.1.1 in
     let tail = 32 ∷ 61 ∷ 32 ∷ (elements_text all es ++ 59 ∷ 10 ∷ s) in
     let right : 32 ∷ 58 ∷ 58 ∷ 32 ∷ (codes "output_array" ++ (40 ∷ 91 ∷ (list_text (λ r. range_text r.0 r.1) rs ++ (93 ∷ 41 ∷ tail)))) ≡ ranges_text (Some rs) ++ tail =
-        ap (λ t. codes " :: output_array([" ++ t) (sym (flat_three (list_text (λ r. range_text r.0 r.1) rs) (codes "]") (codes ")") tail)) in
+    ap (λ t. codes " :: output_array([" ++ t) (sym (flat_three (list_text (λ r. range_text r.0 r.1) rs) (codes "]") (codes ")") tail)) in
     lexes_as _ _ (Plain (Stop DoubleColon) ∷ Plain (Named (codes "output_array")) ∷ Opens Round ∷ Opens Square ∷ (inside ++ (rest ++ ws))) _ right
     (ap (λ us. Plain (Stop DoubleColon) ∷ Plain (Named (codes "output_array")) ∷ Opens Round ∷ Opens Square ∷ us) (sym (append_assoc inside rest ws)))
     (lexes_space _ _ (lexes_double_colon _ _ (lexes_space _ _
@@ -225,10 +214,10 @@ vars_lexes c all n t output es s ws spelled h =
     let parts = Each-append_parts IsSpelled typed (Plain (Stop Colon) ∷ Plain (Named n) ∷ notes) spelled.1.1.1.1.1.1.1.1 in
     lexes_as (size_text (length es) ++ (codes "var" ++ (32 ∷ (type_text t ++ (58 ∷ 32 ∷ (n ++ tail)))))) _
     (Plain (Key key.Array) ∷ Opens Square ∷ Plain (Number (pos 1) true) ∷ Plain (Stop DoubleDot) ∷ Plain (Number (pos (length es)) false) ∷ Closes Square ∷ Plain (Key key.Of)
-        ∷ Plain (Key key.Var) ∷ (typed ++ (Plain (Stop Colon) ∷ Plain (Named n) ∷ (notes ++ ws)))) _
+    ∷ Plain (Key key.Var) ∷ (typed ++ (Plain (Stop Colon) ∷ Plain (Named n) ∷ (notes ++ ws)))) _
     (sym (flat_nine (size_text (length es)) (codes "var ") (type_text t) (codes ": ") n (ranges_text output) (codes " = ") (elements_text all es) line_end s))
     (ap (λ us. Plain (Key key.Array) ∷ Opens Square ∷ Plain (Number (pos 1) true) ∷ Plain (Stop DoubleDot) ∷ Plain (Number (pos (length es)) false) ∷ Closes Square ∷ Plain (Key key.Of)
-        ∷ Plain (Key key.Var) ∷ us) (sym (append_assoc typed (Plain (Stop Colon) ∷ Plain (Named n) ∷ notes) ws)))
+    ∷ Plain (Key key.Var) ∷ us) (sym (append_assoc typed (Plain (Stop Colon) ∷ Plain (Named n) ∷ notes) ws)))
     (lexes_size (length es) _ _ spelled.1.1.1.1.0 (lexes_key key.Var _ _ refl (lexes_space _ _
     (lexes_type (domain_test c) beyond_small t (58 ∷ 32 ∷ (n ++ tail)) (Plain (Stop Colon) ∷ Plain (Named n) ∷ (notes ++ ws)) parts.0 (refl, refl) refl
     (lexes_named n tail (notes ++ ws) parts.1.1.0 (sized_ends output _)

@@ -1,5 +1,5 @@
 -- Literals, ranges, and lists of things with commas between them, in front of a text.
-use Rattle.std.proofs.Common.{◌≡◌, ℕ, ◌≤◌, Bool, true, false, inl, inr, List, [], ◌∷◌, ◌++◌, map, codes, refl, sym, ◌∙◌, ap, subst, append_assoc}
+use Rattle.std.proofs.Common.{◌≡◌, ℕ, ◌≤◌, true, false, List, [], ◌∷◌, ◌++◌, map, refl, sym, ◌∙◌, ap, subst, append_assoc}
 use Rattle.std.specs.Prelude.{ℤ, nat_abs}
 use Rattle.dp_base.specs.Lists.{Each}
 use Rattle.dp_base.proofs.Lists.{Each-append_parts}
@@ -10,15 +10,15 @@ use Rattle.dp_grammar.specs.Many.{spell_behind}
 use Rattle.fz_token.specs.Number.{limit}
 use Rattle.fz_token.specs.declared.Keyword.TheVariants as key
 use Rattle.fz_model.specs.Items.{basic_word}
-use Rattle.fz_model.specs.Marks.{Production, is_stop}
-use Rattle.fz_model.specs.Words.{Comma, DoubleDot, IsSpelled, Key, Number, Stop, Word}
+use Rattle.fz_model.specs.Marks.{is_stop}
+use Rattle.fz_model.specs.Words.{Comma, DoubleDot, IsSpelled, Number, Stop, Word}
 use Rattle.fz_model.specs.declared.fault.Fault.{Fault}
 use Rattle.fz_model.specs.declared.model.Basic.{Basic}
 use Rattle.fz_model.specs.declared.model.Basic.TheVariants as basic
 use Rattle.fz_model.specs.declared.model.Item.{Item}
 use Rattle.fz_print.specs.Canonical.{basic_words}
-use Rattle.fz_print.specs.Printed.{basic_text, further_text, integer_text, list_text, range_text, truth_text}
-use Rattle.fz_print.proofs.Lexemes.{EndsWord, lexes_comma, lexes_double_dot, lexes_key, lexes_name}
+use Rattle.fz_print.specs.Printed.{basic_text, further_text, integer_text, list_text, range_text}
+use Rattle.fz_print.proofs.Lexemes.{lexes_comma, lexes_double_dot, lexes_key, lexes_name}
 use Rattle.fz_print.proofs.Lexes.{Lexes, is_dotted}
 use Rattle.fz_print.proofs.Numerals.{EndsNumber, lexes_integer}
 

@@ -10,17 +10,16 @@ use Rattle.std.proofs.lemmas.Slice.Eq.{bytes_eq-Decides}
 use Rattle.dp_base.specs.Lists.{Each}
 use Rattle.std.specs.Prelude.{ℤ}
 use Rattle.fz_model.specs.Annotations.{Annotated}
-use Rattle.fz_model.specs.Context.{BasicText, Context, Name, Truth, Whole, meaning, meant_by, with_elements}
-use Rattle.fz_model.specs.Items.{basic_word, definition_test, is_bool_type, type_elements}
-use Rattle.fz_model.specs.Limits.{no_test}
+use Rattle.fz_model.specs.Context.{BasicText, Context, Name, Truth, Whole, meant_by}
+use Rattle.fz_model.specs.Items.{is_bool_type}
 use Rattle.fz_model.specs.ModelText.{ItemWords, after_item, array_of, closing}
-use Rattle.fz_model.specs.Models.{basic_of_text, definition_of, elements_of, is_noted, item_of, name_of_item, notes_of, output_of, place_of, set_of, type_of, variable_item_of}
+use Rattle.fz_model.specs.Models.{basic_of_text, elements_of, item_of, name_of_item, notes_of, output_of, place_of, set_of, type_of, variable_item_of}
 use Rattle.fz_model.specs.declared.meant.Meant.{Meant}
 use Rattle.fz_model.specs.declared.meant.Meant.TheVariants as meant
 use Rattle.fz_model.specs.declared.model.Item.{Item}
 use Rattle.fz_model.specs.declared.model.Item.TheVariants as item
 use Rattle.fz_facts.proofs.Pairs.{Pairs, Pairs-push, slice_get-append}
-use Rattle.fz_print.specs.Canonical.{basic_words, definition_words, item_words}
+use Rattle.fz_print.specs.Canonical.{basic_words}
 use Rattle.fz_print.specs.Printed.{name_text}
 use Rattle.fz_print.proofs.Cleaned.{IsKnown, plain_text}
 

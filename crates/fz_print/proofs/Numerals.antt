@@ -3,12 +3,11 @@ use Rattle.std.proofs.Common.{◌≡◌, ℕ, ◌+◌, ◌<◌, ◌≤◌, ◌^�
 use Rattle.std.specs.Prelude.{ℤ, pos, negsuc, nat_abs, nat_lt}
 use Rattle.std.specs.Char.{is_ascii_digit, is_digit}
 use Rattle.std.specs.Fmt.{decimal}
-use Rattle.std.specs.List.{AllPass, list_all}
+use Rattle.std.specs.List.{list_all}
 use Rattle.std.specs.Str.Parse.{AllDigits, digits_value}
 use Rattle.std.proofs.lemmas.Bool.{and_parts}
 use Rattle.std.proofs.lemmas.Bool.Decides.{nat_tests}
 use Rattle.std.proofs.lemmas.Fmt.{decimal_is_IsNumeral}
-use Rattle.std.proofs.lemmas.List.{drop_at}
 use Rattle.std.proofs.lemmas.List.Sums.{AllPass-from_list_all}
 use Rattle.std.proofs.Math.Seq.{take-append_seam, drop-append_seam}
 use Rattle.dp_grammar.specs.Brackets.{Plain}
@@ -21,7 +20,7 @@ use Rattle.fz_token.specs.declared.TokenKind.TheVariants as kind
 use Rattle.fz_token.specs.declared.TokenRefusal.{TokenRefusal}
 use Rattle.fz_token.specs.declared.TokenRefusal.TheVariants.{BadByte}
 use Rattle.fz_token.proofs.Runs.{run_before}
-use Rattle.fz_model.specs.Words.{Number, Word, kind_word}
+use Rattle.fz_model.specs.Words.{Number, Word}
 use Rattle.fz_print.specs.Printed.{integer_text}
 use Rattle.fz_print.proofs.Lexemes.{EndsWord}
 use Rattle.fz_print.proofs.Lexes.{Lexes, is_dotted, lexes_token}
@@ -177,8 +176,8 @@ lexes_minus [] s ws some all ends small h = absurd (omega arith)
 lexes_minus (b ∷ t) s ws some all ends small h =
     lexes_token (45 ∷ (b ∷ t)) s ws (kind.Integer (signed true (digits_value 10 (b ∷ t)))) (omega arith) (λ at. refl)
     (λ at. (let e : (at + 1) + length (b ∷ t) ≡ at + length (45 ∷ (b ∷ t)) = omega arith in
-        minus_leads ((b ∷ t) ++ s) at ∙ unsigned_is true at (at + 1) b t s all ends small
-        ∙ ap (λ n. Ok (record { kind = kind.Integer (signed true (digits_value 10 (b ∷ t))); start = at; end = n })) e)) h
+    minus_leads ((b ∷ t) ++ s) at ∙ unsigned_is true at (at + 1) b t s all ends small
+    ∙ ap (λ n. Ok (record { kind = kind.Integer (signed true (digits_value 10 (b ∷ t))); start = at; end = n })) e)) h
 
 within_word : (n : ℕ) → n ≤ limit → n < 2 ^ 64
 within_word n h = omega arith

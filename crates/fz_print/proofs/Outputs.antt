@@ -1,12 +1,11 @@
 -- The ranges of an array to be printed read back, and fit where they did.
-use Rattle.std.proofs.Common.{◌≡◌, ℕ, ◌+◌, ◌*◌, ◌==◌, Bool, true, false, not, inl, inr, List, [], ◌∷◌, ◌++◌, map, Option, Some, None, Result, Ok, Err, ℤ, pos, ◌+ℤ◌, ◌-ℤ◌, find, bytes_eq, codes, refl, sym, ◌∙◌, ap, subst, append-nil}
+use Rattle.std.proofs.Common.{◌≡◌, ℕ, ◌*◌, ◌==◌, Bool, true, not, List, [], ◌∷◌, ◌++◌, map, Option, Some, None, Result, Ok, Err, ℤ, pos, ◌+ℤ◌, ◌-ℤ◌, find, bytes_eq, codes, refl, sym, ◌∙◌, ap, append-nil}
 use Rattle.std.specs.Option.{option_map_or}
 use Rattle.std.proofs.lemmas.Bool.{not-false}
-use Rattle.dp_base.specs.Lists.{Each}
 use Rattle.dp_grammar.specs.Brackets.{Plain, Opens, Closes, Open, spell_inside}
-use Rattle.dp_grammar.specs.Chain.{behind_mark, before_mark}
+use Rattle.dp_grammar.specs.Chain.{behind_mark}
 use Rattle.dp_grammar.specs.Choice.{either}
-use Rattle.dp_grammar.specs.Grammar.{Cause, Grammar, IsLawful, verdict}
+use Rattle.dp_grammar.specs.Grammar.{Cause, IsLawful, verdict}
 use Rattle.dp_grammar.specs.Listed.{Listing, further, listed}
 use Rattle.dp_grammar.specs.Many.{spell_behind}
 use Rattle.dp_grammar.specs.Whole.{finished, whole}

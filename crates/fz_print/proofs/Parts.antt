@@ -1,23 +1,19 @@
 -- Sets, types, elements and arguments in front of a text.
-use Rattle.std.proofs.Common.{◌≡◌, ℕ, ◌≤◌, Bool, true, false, if◌then◌else◌, inl, inr, List, [], ◌∷◌, ◌++◌, map, length, Option, None, codes, refl, sym, ◌∙◌, ap, subst, append_assoc}
-use Rattle.std.specs.Prelude.{ℤ, pos, slice_get}
-use Rattle.std.specs.Fmt.{decimal}
+use Rattle.std.proofs.Common.{◌≡◌, ℕ, true, false, List, [], ◌∷◌, ◌++◌, map, Option, None, refl, sym, subst, append_assoc}
+use Rattle.std.specs.Prelude.{ℤ}
 use Rattle.dp_base.specs.Lists.{Each}
 use Rattle.dp_grammar.specs.Brackets.{Plain, Opens, Closes, spell_inside}
 use Rattle.dp_grammar.specs.Leaf.{tested_mark}
 use Rattle.dp_grammar.specs.Listed.{Listing, listed}
-use Rattle.fz_token.specs.Number.{limit}
 use Rattle.fz_token.specs.declared.Keyword.TheVariants as key
-use Rattle.fz_model.specs.Constraints.{argument, arg_word, behind, close_test}
+use Rattle.fz_model.specs.Constraints.{argument, arg_word}
 use Rattle.fz_model.specs.Context.{BasicText, Context}
 use Rattle.fz_model.specs.Items.{IntText, array_literal, basic, basic_word}
 use Rattle.fz_model.specs.Literals.{integer, numbers, set_literal, var_type}
 use Rattle.fz_model.specs.Marks.{is_close, is_stop, closes}
-use Rattle.fz_model.specs.Table.{args_of}
-use Rattle.fz_model.specs.Words.{Round, Square, Curly, Comma, DoubleDot, IsSpelled, Key, Number, Stop, Word, bracketing}
+use Rattle.fz_model.specs.Words.{Round, Square, Curly, Comma, DoubleDot, IsSpelled, Number, Stop, Word, bracketing}
 use Rattle.fz_model.specs.declared.fault.Fault.{Fault}
 use Rattle.fz_model.specs.declared.kinds.ArgKind.{ArgKind}
-use Rattle.fz_model.specs.declared.kinds.ConstraintKind.{ConstraintKind}
 use Rattle.fz_model.specs.declared.model.Basic.{Basic}
 use Rattle.fz_model.specs.declared.model.Basic.TheVariants as basics
 use Rattle.fz_model.specs.declared.model.Expr.{Expr}
@@ -28,10 +24,10 @@ use Rattle.fz_model.specs.declared.model.SetText.TheVariants as set
 use Rattle.fz_model.specs.declared.model.VarType.{VarType}
 use Rattle.fz_model.specs.declared.model.VarType.TheVariants as type
 use Rattle.fz_print.specs.Canonical.{arg_text_of, arg_words, basic_words, further_inside, number_words, ranges_inside, set_words, type_words}
-use Rattle.fz_print.specs.Printed.{basic_text, elements_text, expr_text, further_text, integer_text, list_text, numbers_text, range_text, set_text, truth_text, type_text}
+use Rattle.fz_print.specs.Printed.{basic_text, elements_text, expr_text, further_text, integer_text, list_text, numbers_text, range_text, set_text, type_text}
 use Rattle.fz_print.proofs.Lexemes.{lexes_close_curly, lexes_close_round, lexes_close_square, lexes_comma, lexes_key, lexes_open_curly, lexes_open_square}
 use Rattle.fz_print.proofs.Lexes.{Lexes, is_dotted}
-use Rattle.fz_print.proofs.Lists.{IsPrinted, lexes_as, lexes_basic, lexes_number, lexes_range, listed_lexes}
+use Rattle.fz_print.proofs.Lists.{IsPrinted, lexes_basic, lexes_number, lexes_range, listed_lexes}
 use Rattle.fz_print.proofs.Numerals.{EndsNumber}
 
 -- ---- numbers and sets

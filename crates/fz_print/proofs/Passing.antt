@@ -1,5 +1,5 @@
 -- The canonical spelling of a model passes each test, stands for the model, and is read as such.
-use Rattle.std.proofs.Common.{◌≡◌, ℕ, List, [], ◌∷◌, ◌++◌, map, None, Ok, refl, sym, ◌∙◌, ap, subst, append-nil}
+use Rattle.std.proofs.Common.{◌≡◌, List, [], map, None, Ok, refl, sym, ◌∙◌, ap, subst, append-nil}
 use Rattle.std.specs.List.{flat_map}
 use Rattle.dp_base.specs.Lists.{Each}
 use Rattle.dp_grammar.specs.Grammar.{verdict}
@@ -10,7 +10,7 @@ use Rattle.fz_model.specs.Annotations.{Annotated}
 use Rattle.fz_model.specs.Constraints.{ConstraintWords, constraint_item}
 use Rattle.fz_model.specs.Context.{Context}
 use Rattle.fz_model.specs.Marks.{is_key}
-use Rattle.fz_model.specs.ModelText.{GoalWords, ItemWords, ModelWords, Rest, begins_item, closing, context_of, goal, item, model, model_words, named_refusal, nothing, rest_of, solve_item}
+use Rattle.fz_model.specs.ModelText.{GoalWords, ItemWords, ModelWords, Rest, begins_item, closing, context_of, item, model, model_words, named_refusal, nothing, rest_of, solve_item}
 use Rattle.fz_model.specs.Models.{IsModel, Plan, constraint_of_words, goal_of, items_of, model_of}
 use Rattle.fz_model.specs.Words.{IsSpelled, Word, words}
 use Rattle.fz_model.specs.declared.fault.Fault.{Fault}
@@ -20,7 +20,7 @@ use Rattle.fz_model.proofs.ModelLaws.{model_lawful}
 use Rattle.fz_facts.proofs.Faults.{many_parts}
 use Rattle.fz_print.specs.Canonical.{canonical, constraint_words, goal_words, item_words, plain}
 use Rattle.fz_print.specs.Printed.{printed}
-use Rattle.fz_print.proofs.AgainItems.{IsFree, all_named, behind_again, context_again, free_again, items_again}
+use Rattle.fz_print.proofs.AgainItems.{all_named, behind_again, context_again, free_again, items_again}
 use Rattle.fz_print.proofs.CleanConstraints.{clean_constraint, constraint_again, constraint_none, goal_again, goal_none, map_again, same_constraints}
 use Rattle.fz_print.proofs.CleanItems.{clean_item}
 use Rattle.fz_print.proofs.Naming.{AreNamed}
@@ -47,9 +47,9 @@ canonical_is w e =
     let named : AreNamed (context_of w.0) (items_of w.0) = all_named nothing [] w.0 tt in
     let is : map (item_words (items_of w.0)) (items_of w.0) ≡ flat_map clean_item w.0 = items_again (items_of w.0) nothing [] [] w.0 refl tt p.0 refl in
     let cs : map (constraint_words items) (map (constraint_of_words items) w.1.0) ≡ map clean_constraint w.1.0 =
-        map_again (constraint_words items) (constraint_of_words items) clean_constraint w.1.0
-        (EachBehind-each (λ before x. (constraint_item (context_of w.0) before).fault x ≡ None) (λ x. constraint_words (items_of w.0) (constraint_of_words (items_of w.0) x) ≡ clean_constraint x)
-        (λ before x h. constraint_again (context_of w.0) (items_of w.0) named before x h) [] w.1.0 q.0) in
+    map_again (constraint_words items) (constraint_of_words items) clean_constraint w.1.0
+    (EachBehind-each (λ before x. (constraint_item (context_of w.0) before).fault x ≡ None) (λ x. constraint_words (items_of w.0) (constraint_of_words (items_of w.0) x) ≡ clean_constraint x)
+    (λ before x h. constraint_again (context_of w.0) (items_of w.0) named before x h) [] w.1.0 q.0) in
     let g : goal_words items (goal_of items (closing w.1.1)) ≡ closing w.1.1 = goal_again (context_of w.0) (items_of w.0) named (closing w.1.1) (goal_none (context_of w.0) w.1.1 q.1) in
     ap (λ l. (l, (map (constraint_words items) (map (constraint_of_words items) w.1.0), plain (goal_words items (goal_of items (closing w.1.1)))))) is
     ∙ ap (λ l. (flat_map clean_item w.0, (l, plain (goal_words items (goal_of items (closing w.1.1)))))) cs
@@ -61,10 +61,10 @@ clean_none w e =
     let p = many_parts items_repeat w e in
     let q = many_parts (constraints_repeat (context_of w.0)) w.1 p.1 in
     let rest : (rest_of (context_of w.0)).fault (map clean_constraint w.1.0, plain (closing w.1.1)) ≡ None =
-        many_none (constraints_repeat (context_of w.0)) (map clean_constraint w.1.0, plain (closing w.1.1))
-        (EachBehind-map (λ before x. (constraint_item (context_of w.0) before).fault x ≡ None) (λ before x. (constraint_item (context_of w.0) before).fault x ≡ None) clean_constraint
-        (λ kept x h. constraint_none (context_of w.0) kept x h) [] w.1.0 q.0)
-        (goal_none (context_of w.0) w.1.1 q.1) in
+    many_none (constraints_repeat (context_of w.0)) (map clean_constraint w.1.0, plain (closing w.1.1))
+    (EachBehind-map (λ before x. (constraint_item (context_of w.0) before).fault x ≡ None) (λ before x. (constraint_item (context_of w.0) before).fault x ≡ None) clean_constraint
+    (λ kept x h. constraint_none (context_of w.0) kept x h) [] w.1.0 q.0)
+    (goal_none (context_of w.0) w.1.1 q.1) in
     many_none items_repeat (clean w) (free_again nothing [] [] w.0 refl refl p.0)
     (subst (λ c. (rest_of c).fault (map clean_constraint w.1.0, plain (closing w.1.1)) ≡ None) (sym (context_again nothing w.0)) rest)
 

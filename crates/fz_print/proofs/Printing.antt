@@ -1,7 +1,6 @@
 -- The words of a printed model are those of its canonical spelling.
-use Rattle.std.proofs.Common.{◌≡◌, ℕ, List, [], ◌∷◌, ◌++◌, inl, inr, map, length, None, codes, refl, sym, ◌∙◌, ap, subst, append_assoc}
+use Rattle.std.proofs.Common.{◌≡◌, ℕ, List, [], ◌∷◌, ◌++◌, map, length, None, codes, refl, sym, ◌∙◌, ap, subst, append_assoc}
 use Rattle.std.specs.Prelude.{slice_get}
-use Rattle.std.specs.List.{flat_map}
 use Rattle.dp_base.specs.Lists.{Each}
 use Rattle.dp_base.proofs.Lists.{Each-append_parts}
 use Rattle.dp_grammar.specs.Brackets.{Plain, Opens, Closes}

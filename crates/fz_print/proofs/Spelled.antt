@@ -1,36 +1,32 @@
 -- The words of the canonical spelling are words that tokens stand for.
-use Rattle.std.proofs.Common.{◌≡◌, ℕ, ◌≤◌, ◌<◌, ◌^◌, Bool, true, false, ◌⊎◌, inl, inr, List, [], ◌∷◌, ◌++◌, map, length, Option, Some, None, Result, Ok, Err, ℤ, pos, negsuc, nat_abs, find, bytes_eq, codes, cond, refl, sym, ◌∙◌, ap, subst, append-nil, append_assoc, arith}
-use Rattle.std.specs.List.{flat_map}
+use Rattle.std.proofs.Common.{◌≡◌, ℕ, Bool, true, false, inl, inr, List, [], ◌∷◌, ◌++◌, map, length, Option, Some, None, Result, Ok, Err, ℤ, find, cond, refl, sym, ◌∙◌, ap, subst, append-nil, append_assoc}
 use Rattle.std.specs.Option.{option_map_or}
 use Rattle.dp_base.specs.Lists.{Each}
 use Rattle.dp_base.proofs.Lists.{Each-append, Each-append_parts}
-use Rattle.dp_grammar.specs.Brackets.{Plain, Opens, Closes, Open, spell_inside}
+use Rattle.dp_grammar.specs.Brackets.{Closes, spell_inside}
 use Rattle.dp_grammar.specs.Choice.{either}
 use Rattle.dp_grammar.specs.Grammar.{Cause, Reading, Stops, Takes, Tells}
 use Rattle.dp_grammar.specs.Listed.{Listing, further, listed}
 use Rattle.dp_grammar.specs.Many.{Link, spell_behind}
 use Rattle.dp_grammar.specs.Whole.{finished, whole}
 use Rattle.fz_model.specs.Annotations.{Annotation, Annotated, Balanced, Close, annotated, annotation_link, link_parts, parts_with}
-use Rattle.fz_model.specs.Arrays.{constant_element, count_of, elements_end, is_bools, output_ranges, size_test, variable_element}
+use Rattle.fz_model.specs.Arrays.{output_ranges}
 use Rattle.std.specs.Prelude.{slice_get}
 use Rattle.fz_model.specs.Table.{args_of}
 use Rattle.fz_model.specs.declared.kinds.ArgKind.{ArgKind}
 use Rattle.fz_model.specs.declared.kinds.ConstraintKind.{ConstraintKind}
 use Rattle.fz_model.specs.Constraints.{ArgWords, argument, behind}
-use Rattle.fz_model.specs.Context.{BasicText, Context, Name, Truth, Whole, one_more}
-use Rattle.fz_model.specs.Items.{IntText, SetWords, TypeWords, array_literal, basic_word, domain_test, variable_end}
-use Rattle.fz_model.specs.Limits.{beyond_small, no_test}
-use Rattle.fz_model.specs.Literals.{range, set_literal, var_type}
-use Rattle.fz_model.specs.Marks.{Production}
+use Rattle.fz_model.specs.Context.{BasicText, Context, Name, Truth, Whole}
+use Rattle.fz_model.specs.Items.{IntText, SetWords, TypeWords, array_literal, basic_word}
+use Rattle.fz_model.specs.Literals.{set_literal, var_type}
 use Rattle.fz_model.specs.Models.{notes_of, output_of, ranges_of, ranges_read, set_of, type_of}
 use Rattle.fz_model.specs.ModelText.{closing}
-use Rattle.fz_model.specs.Words.{Round, Square, Equals, IsSpelled, Named, Number, Semicolon, Stop, Word, bracketing}
+use Rattle.fz_model.specs.Words.{Round, Square, IsSpelled, Word, bracketing}
 use Rattle.fz_model.specs.declared.fault.Fault.{Fault}
 use Rattle.fz_facts.proofs.Faults.{EachBehind}
-use Rattle.fz_print.specs.Canonical.{kind_words, marked, plain, ranges_inside, set_words, sized, type_words}
+use Rattle.fz_print.specs.Canonical.{ranges_inside, set_words, type_words}
 use Rattle.fz_print.proofs.Cleaned.{elements_listing, numbers_listing, plain_number, plain_text, same_numbers}
 use Rattle.fz_print.proofs.CleanConstraints.{args_listing, clean_arg}
-use Rattle.fz_print.proofs.CleanItems.{clean_definition}
 use Rattle.fz_print.proofs.Outputs.{Range, as_values, as_words, is_sized, ranges_spell, sizes, sizes_lawful}
 use Rattle.fz_print.proofs.Unrefused.{EachBehind-each}
 
@@ -44,9 +40,11 @@ module _ {X Y : Type 0} (l : Listing Word Fault X) (m : Listing Word Fault Y) (f
       → Each IsSpelled (spell_behind (λ before. either (further m b).goes_on ((further m b).item before) ((further m b).close before)) more (map f xs) tt)
   further_map a b kept more [] h = close (b ∷ more)
   further_map a b kept more (x ∷ xs) h =
-      let p = Each-append_parts IsSpelled ((l.item (a ∷ kept)).spell x) (spell_behind (λ before. either (further l a).goes_on ((further l a).item before) ((further l a).close before)) (kept ++ x ∷ []) xs tt) h.1 in
-      (separator, Each-append IsSpelled ((m.item (b ∷ more)).spell (f x)) (spell_behind (λ before. either (further m b).goes_on ((further m b).item before) ((further m b).close before)) (more ++ f x ∷ []) (map f xs) tt)
-          (item (a ∷ kept) (b ∷ more) x p.0) (further_map a b (kept ++ x ∷ []) (more ++ f x ∷ []) xs p.1))
+      let p = Each-append_parts IsSpelled ((l.item (a ∷ kept)).spell x) (spell_behind (λ before. either (further l a).goes_on ((further l a).item before) ((further l a).close before)) (kept ++ x ∷ []) xs tt) h.1 in (
+        separator,
+        Each-append IsSpelled ((m.item (b ∷ more)).spell (f x)) (spell_behind (λ before. either (further m b).goes_on ((further m b).item before) ((further m b).close before)) (more ++ f x ∷ []) (map f xs) tt)
+            (item (a ∷ kept) (b ∷ more) x p.0) (further_map a b (kept ++ x ∷ []) (more ++ f x ∷ []) xs p.1),
+      )
 
   pub spelled_map : (xs : List X) → Each IsSpelled ((listed l).spell xs) → Each IsSpelled ((listed m).spell (map f xs))
   spelled_map [] h = close []
@@ -127,7 +125,7 @@ annotated_spelled close (inl p) h =
     let q = spelled_behind (annotation_link close) [] p.0 p.1 h.1 in
     let r = last_spelled close p.0 p.1.0.name p.1.0.args p.1.1 q.1 in
     let each = EachBehind-each (λ before x. Each IsSpelled ((annotation_link close before).spell (inl x))) (λ note. Each IsSpelled (inside_words note.args))
-        (λ before x k. note_spelled close before x.name x.args k) [] p.0 q.0 in
+    (λ before x k. note_spelled close before x.name x.args k) [] p.0 q.0 in
     (Each-append (λ note. Each IsSpelled (inside_words note.args)) p.0 (p.1.0 ∷ []) each (r.0, tt), r.1)
 annotated_spelled close (inr c) h = (tt, h)
 

@@ -1,5 +1,5 @@
 -- The words of the canonical spelling of a model are words that tokens stand for.
-use Rattle.std.proofs.Common.{◌≡◌, ℕ, ◌≤◌, ◌^◌, Bool, true, false, if◌then◌else◌, ◌⊎◌, inl, inr, List, [], ◌∷◌, ◌++◌, map, length, Option, Some, None, ℤ, pos, negsuc, nat_abs, codes, refl, sym, ◌∙◌, ap, subst, append-nil, append_assoc, arith}
+use Rattle.std.proofs.Common.{◌≡◌, ℕ, ◌≤◌, ◌^◌, Bool, true, false, ◌⊎◌, inl, inr, List, [], ◌∷◌, ◌++◌, map, length, Option, Some, None, ℤ, pos, negsuc, nat_abs, codes, refl, sym, ◌∙◌, ap, subst, append-nil, append_assoc, arith}
 use Rattle.std.specs.List.{flat_map}
 use Rattle.dp_base.specs.Lists.{Each}
 use Rattle.dp_base.proofs.Lists.{Each-append, Each-append_parts}
@@ -9,21 +9,21 @@ use Rattle.dp_grammar.specs.Listed.{listed}
 use Rattle.dp_grammar.specs.Many.{Link, spell_behind}
 use Rattle.fz_token.specs.declared.Keyword.TheVariants as key
 use Rattle.fz_model.specs.Annotations.{Annotated, Close, annotated}
-use Rattle.fz_model.specs.Arrays.{array_item, constant_element, count_of, elements_end, is_bools, size_test, type_test, variable_element}
+use Rattle.fz_model.specs.Arrays.{array_item, constant_element, count_of, elements_end, size_test, type_test}
 use Rattle.fz_model.specs.Constraints.{ConstraintWords, behind_constraints, constraint_item, kind_named}
 use Rattle.fz_model.specs.Context.{BasicText, Context, one_more, with_elements}
 use Rattle.fz_model.specs.Items.{IntText, TypeWords, array_literal, defined, domain_test, truth, type_elements, variable_end}
 use Rattle.fz_model.specs.Limits.{beyond_small, no_test, or_else}
 use Rattle.fz_model.specs.Literals.{integer, set_literal, var_type}
 use Rattle.fz_model.specs.Marks.{Production, is_key, stop}
-use Rattle.fz_model.specs.ModelText.{ArrayWords, ItemWords, ModelWords, Rest, after_item, after_items, begins_item, closing, context_of, goal, item as item_production, model, nothing, rest_of, solve_item}
+use Rattle.fz_model.specs.ModelText.{ArrayWords, ItemWords, ModelWords, after_item, after_items, begins_item, closing, context_of, goal, item as item_production, model, nothing, rest_of, solve_item}
 use Rattle.fz_model.specs.Models.{IsModel, Plan, is_noted, notes_of, output_of, set_of, type_of}
 use Rattle.fz_model.specs.Words.{Round, Square, Colon, IsSpelled, Named, Semicolon, Stop, Word, bracketing}
 use Rattle.fz_model.specs.declared.fault.Fault.{Fault}
 use Rattle.fz_facts.proofs.Faults.{EachBehind, many_parts}
 use Rattle.fz_print.specs.Canonical.{canonical, marked, plain, ranges_inside, set_words, sized, type_words}
 use Rattle.fz_print.proofs.AgainItems.{IsFree, after_one, context_again, few}
-use Rattle.fz_print.proofs.Cleaned.{element_of, plain_text, same_type_elements, so_many}
+use Rattle.fz_print.proofs.Cleaned.{element_of, plain_text, so_many}
 use Rattle.fz_print.proofs.CleanConstraints.{args_listing, clean_arg, clean_constraint}
 use Rattle.fz_print.proofs.CleanItems.{array_parts, clean_definition, clean_item, constant_wanted, constants_parts, variables_parts}
 use Rattle.fz_print.proofs.CleanTwins.{item_after}
@@ -78,18 +78,44 @@ array_spelled c (size, inr (inr int, a)) e h =
 array_spelled c (size, inl a) e h =
     let p = variables_parts c size.1 a.0 a.1.0 a.1.1 (array_parts c (size, inl a) e) in
     let n = small_count size.1.0 (length (closing a.1.1)) h.1.1.1.1.0
-        (so_many (element_of (with_elements c (type_elements a.0)) (with_elements c (type_elements a.0)) (type_test a.0)) (count_of size.1.0) (closing a.1.1) p.elements) in
+    (so_many (element_of (with_elements c (type_elements a.0)) (with_elements c (type_elements a.0)) (type_test a.0)) (count_of size.1.0) (closing a.1.1) p.elements) in
     let q = Each-append_parts IsSpelled ((var_type (domain_test c) beyond_small).spell a.0)
-        (Plain (Stop Colon) ∷ Plain (Named a.1.0) ∷ (annotated (elements_end (with_elements c (type_elements a.0)) size.1 a.0)).spell a.1.1) h.1.1.1.1.1.1.1.1 in
+    (Plain (Stop Colon) ∷ Plain (Named a.1.0) ∷ (annotated (elements_end (with_elements c (type_elements a.0)) size.1 a.0)).spell a.1.1) h.1.1.1.1.1.1.1.1 in
     let r = annotated_spelled (elements_end (with_elements c (type_elements a.0)) size.1 a.0) a.1.1 q.1.1.1 in
     let t = type_words (type_of a.0) in
     let close = elements_end (with_elements c (type_elements (type_words (type_of a.0)))) (pos (length (closing a.1.1)), false) (type_words (type_of a.0)) in
     let o = output_of (notes_of a.1.1) in
     let u : Each IsSpelled ((annotated close).spell (sized o (map plain_text (closing a.1.1)))) =
-        sized_spelled close o (map plain_text (closing a.1.1)) (output_printable (notes_of a.1.1) r.0)
-        (tt, ended_spelled (λ kept x. None) (λ kept x. None) (λ kept. None) (λ kept. None) (closing a.1.1) r.1.1) in
-    ((tt, (tt, (h.1.1.0, (tt, (n, (tt, (tt, (tt, Each-append IsSpelled ((var_type (domain_test c) beyond_small).spell t) (Plain (Stop Colon) ∷ Plain (Named a.1.0) ∷ (annotated close).spell (sized o (map plain_text (closing a.1.1))))
-        (type_spelled (λ k x. or_else (beyond_small x) (one_more c k)) beyond_small a.0 q.0) (tt, (q.1.1.0, u)))))))))), tt)
+    sized_spelled close o (map plain_text (closing a.1.1)) (output_printable (notes_of a.1.1) r.0)
+    (tt, ended_spelled (λ kept x. None) (λ kept x. None) (λ kept. None) (λ kept. None) (closing a.1.1) r.1.1) in (
+      (
+        tt,
+        (
+          tt,
+          (
+            h.1.1.0,
+            (
+              tt,
+              (
+                n,
+                (
+                  tt,
+                  (
+                    tt,
+                    (
+                      tt,
+                      Each-append IsSpelled ((var_type (domain_test c) beyond_small).spell t) (Plain (Stop Colon) ∷ Plain (Named a.1.0) ∷ (annotated close).spell (sized o (map plain_text (closing a.1.1))))
+                          (type_spelled (λ k x. or_else (beyond_small x) (one_more c k)) beyond_small a.0 q.0) (tt, (q.1.1.0, u)),
+                    ),
+                  ),
+                ),
+              ),
+            ),
+          ),
+        ),
+      ),
+      tt,
+    )
 
 item_spelled : (c : Context) (x : ItemWords) → (item_production c).fault x ≡ None → AllSpelled c x → Each (AllSpelled c) (clean_item x)
 item_spelled c (inl p) e h = tt
@@ -97,18 +123,43 @@ item_spelled c (inr (inl i)) e h = ((tt, (tt, (h.1.1.0, (annotated_spelled (λ n
 item_spelled c (inr (inr (inl b))) e h = ((tt, (tt, (h.1.1.0, (annotated_spelled (λ notes. defined truth) b.1 h.1.1.1).1))), tt)
 item_spelled c (inr (inr (inr (inl s)))) e h =
     let p = annotated_spelled (λ notes. defined (set_literal (λ kept value. one_more c (length kept)) no_test)) s.1 h.1.1.1.1.1 in
-    let q = Each-append_parts IsSpelled ((set_literal (λ kept value. one_more c (length kept)) no_test).spell (closing s.1)) (Plain (Stop Semicolon) ∷ []) p.1.1 in
-    ((tt, (tt, (tt, (tt, (h.1.1.1.1.0, (tt, Each-append IsSpelled ((set_literal (λ kept value. one_more c (length kept)) no_test).spell (set_words (set_of (closing s.1)))) (Plain (Stop Semicolon) ∷ [])
-        (set_spelled (λ k v. one_more c k) no_test (closing s.1) q.0) (tt, tt))))))), tt)
+    let q = Each-append_parts IsSpelled ((set_literal (λ kept value. one_more c (length kept)) no_test).spell (closing s.1)) (Plain (Stop Semicolon) ∷ []) p.1.1 in (
+      (
+        tt,
+        (
+          tt,
+          (
+            tt,
+            (
+              tt,
+              (
+                h.1.1.1.1.0,
+                (
+                  tt,
+                  Each-append IsSpelled ((set_literal (λ kept value. one_more c (length kept)) no_test).spell (set_words (set_of (closing s.1)))) (Plain (Stop Semicolon) ∷ [])
+                      (set_spelled (λ k v. one_more c k) no_test (closing s.1) q.0) (tt, tt),
+                ),
+              ),
+            ),
+          ),
+        ),
+      ),
+      tt,
+    )
 item_spelled c (inr (inr (inr (inr (inl a))))) e h = array_spelled c a e h
 item_spelled c (inr (inr (inr (inr (inr v))))) e h =
     let q = Each-append_parts IsSpelled ((var_type (domain_test c) beyond_small).spell v.0) (Plain (Stop Colon) ∷ Plain (Named v.1.0) ∷ (annotated (λ notes. variable_end c v.0)).spell v.1.1) h.1 in
     let r = annotated_spelled (λ notes. variable_end c v.0) v.1.1 q.1.1.1 in
     let t = type_words (type_of v.0) in
-    let o = is_noted (codes "output_var") (notes_of v.1.1) in
-    ((tt, Each-append IsSpelled ((var_type (domain_test c) beyond_small).spell t) (Plain (Stop Colon) ∷ Plain (Named v.1.0) ∷ (annotated (λ notes. variable_end c t)).spell (marked o (clean_definition (closing v.1.1))))
-        (type_spelled (λ k x. or_else (beyond_small x) (one_more c k)) beyond_small v.0 q.0)
-        (tt, (q.1.1.0, marked_spelled (variable_end c t) o (clean_definition (closing v.1.1)) (end_spelled c v.0 t (closing v.1.1) r.1)))), tt)
+    let o = is_noted (codes "output_var") (notes_of v.1.1) in (
+      (
+        tt,
+        Each-append IsSpelled ((var_type (domain_test c) beyond_small).spell t) (Plain (Stop Colon) ∷ Plain (Named v.1.0) ∷ (annotated (λ notes. variable_end c t)).spell (marked o (clean_definition (closing v.1.1))))
+            (type_spelled (λ k x. or_else (beyond_small x) (one_more c k)) beyond_small v.0 q.0)
+            (tt, (q.1.1.0, marked_spelled (variable_end c t) o (clean_definition (closing v.1.1)) (end_spelled c v.0 t (closing v.1.1) r.1))),
+      ),
+      tt,
+    )
 
 -- ---- the whole
 
@@ -146,19 +197,27 @@ said_again c kept cleaned (x ∷ xs) e f h s =
 constraint_spelled : (c : Context) (kept : List ConstraintWords) (q : ConstraintWords) → Each IsSpelled ((constraint_item c kept).spell q) → Each IsSpelled ((constraint_item c (map clean_constraint kept)).spell (clean_constraint q))
 constraint_spelled c kept q h =
     let old = (listed (args_listing (behind_constraints c kept) (kind_named q.0))).spell q.1.0 in
-    let p = Each-append_parts IsSpelled old ((annotated (λ notes. stop Semicolon)).spell q.1.1) h.1.1.1 in
-    (tt, (h.1.0, (tt, Each-append IsSpelled ((listed (args_listing (behind_constraints c (map clean_constraint kept)) (kind_named q.0))).spell (map clean_arg q.1.0)) (Plain (Stop Semicolon) ∷ [])
-        (args_spelled (behind_constraints c kept) (behind_constraints c (map clean_constraint kept)) (kind_named q.0) q.1.0 p.0) (tt, tt))))
+    let p = Each-append_parts IsSpelled old ((annotated (λ notes. stop Semicolon)).spell q.1.1) h.1.1.1 in (
+      tt,
+      (
+        h.1.0,
+        (
+          tt,
+          Each-append IsSpelled ((listed (args_listing (behind_constraints c (map clean_constraint kept)) (kind_named q.0))).spell (map clean_arg q.1.0)) (Plain (Stop Semicolon) ∷ [])
+              (args_spelled (behind_constraints c kept) (behind_constraints c (map clean_constraint kept)) (kind_named q.0) q.1.0 p.0) (tt, tt),
+        ),
+      ),
+    )
 
 clean_spelled : (w : ModelWords) → model.fault w ≡ None → Each IsSpelled (model.spell w) → Each IsSpelled (model.spell (clean w))
 clean_spelled w e h =
     let p = spelled_behind (λ kept. either begins_item (item_production (context_of kept)) (rest_of (context_of kept))) [] w.0 w.1 h in
     let q = spelled_behind (λ kept. either (is_key key.Constraint) (constraint_item (context_of w.0) kept) (solve_item (context_of w.0))) [] w.1.0 w.1.1 p.1 in
     let rest : Each IsSpelled ((rest_of (context_of w.0)).spell (map clean_constraint w.1.0, plain (closing w.1.1))) =
-        spelled_make (λ kept. either (is_key key.Constraint) (constraint_item (context_of w.0) kept) (solve_item (context_of w.0))) [] (map clean_constraint w.1.0) (plain (closing w.1.1))
-        (EachBehind-map (λ before x. Each IsSpelled ((constraint_item (context_of w.0) before).spell x)) (λ before x. Each IsSpelled ((constraint_item (context_of w.0) before).spell x)) clean_constraint
-        (λ kept x k. constraint_spelled (context_of w.0) kept x k) [] w.1.0 q.0)
-        (tt, (annotated_spelled (λ notes. goal (context_of w.0)) w.1.1 q.1.1).1) in
+    spelled_make (λ kept. either (is_key key.Constraint) (constraint_item (context_of w.0) kept) (solve_item (context_of w.0))) [] (map clean_constraint w.1.0) (plain (closing w.1.1))
+    (EachBehind-map (λ before x. Each IsSpelled ((constraint_item (context_of w.0) before).spell x)) (λ before x. Each IsSpelled ((constraint_item (context_of w.0) before).spell x)) clean_constraint
+    (λ kept x k. constraint_spelled (context_of w.0) kept x k) [] w.1.0 q.0)
+    (tt, (annotated_spelled (λ notes. goal (context_of w.0)) w.1.1 q.1.1).1) in
     spelled_make (λ kept. either begins_item (item_production (context_of kept)) (rest_of (context_of kept))) [] (flat_map clean_item w.0) (map clean_constraint w.1.0, plain (closing w.1.1))
     (said_again nothing [] [] w.0 refl refl (many_parts items_repeat w e).0 p.0)
     (subst (λ d. Each IsSpelled ((rest_of d).spell (map clean_constraint w.1.0, plain (closing w.1.1)))) (sym (context_again nothing w.0)) rest)

@@ -1,5 +1,5 @@
 -- What has parts without faults has none.
-use Rattle.std.proofs.Common.{◌≡◌, List, [], ◌∷◌, ◌++◌, map, inl, inr, Option, Some, None, refl, sym, ap, subst, append_assoc, append-nil}
+use Rattle.std.proofs.Common.{◌≡◌, List, [], ◌∷◌, ◌++◌, map, inl, inr, Option, Some, None, refl, sym, subst, append_assoc, append-nil}
 use Rattle.std.proofs.lemmas.List.{map-append}
 use Rattle.dp_base.specs.Lists.{Each}
 use Rattle.dp_grammar.specs.Chain.{first_fault, chain, before_mark}

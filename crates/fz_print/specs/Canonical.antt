@@ -2,7 +2,7 @@
 use Rattle.std.specs.Prelude.{ℕ, Bool, true, false, ◌⊎◌, List, [], ◌∷◌, length, map, codes, Option, Some, None, ℤ, pos}
 use Rattle.std.proofs.Common.{inl, inr}
 use Rattle.dp_grammar.specs.Brackets.{Inside, Out, Token, Open, Close}
-use Rattle.fz_model.specs.Annotations.{Annotated, Balanced}
+use Rattle.fz_model.specs.Annotations.{Annotated}
 use Rattle.fz_model.specs.Constraints.{ArgText, ArgTruth, ArgWhole, ArgName, ArgWords, ConstraintWords}
 use Rattle.fz_model.specs.Context.{BasicText, Truth, Whole, Name}
 use Rattle.fz_model.specs.Items.{IntText, SetWords, TypeWords}
