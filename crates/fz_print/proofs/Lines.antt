@@ -7,7 +7,6 @@ use Rattle.dp_base.specs.Names.{is_name}
 use Rattle.dp_base.proofs.Lists.{Each-append_parts}
 use Rattle.dp_grammar.specs.Brackets.{Plain, Opens, Closes, spell_inside}
 use Rattle.fz_token.specs.Number.{limit}
-use Rattle.fz_token.specs.Word.{keyword_of}
 use Rattle.fz_token.specs.declared.Keyword.TheVariants as key
 use Rattle.fz_model.specs.Annotations.{annotated}
 use Rattle.fz_model.specs.Arrays.{constant_element, elements_end, size_test, variable_element}
@@ -80,15 +79,7 @@ definition_ends : (all : List Item) (value : Option Basic) (s : List ℕ) → En
 definition_ends all None s = refl
 definition_ends all (Some b) s = refl
 
-no_word_var : keyword_of (codes "output_var") ≡ None
-unfolding keyword_of
-no_word_var = refl
-
-no_word_array : keyword_of (codes "output_array") ≡ None
-unfolding keyword_of
-no_word_array = refl
-
--- a name of these bytes, seen by its letters
+-- the name of the mark
 lexes_mark : (s : List ℕ) (ws : List Word) → EndsWord s → Lexes s ws → Lexes (codes "output_var" ++ s) (Plain (Named (codes "output_var")) ∷ ws)
 lexes_mark s ws ends h = lexes_name (codes "output_var") s ws refl ends h
 
@@ -153,7 +144,7 @@ lexes_ended all element close es s ws spelled h =
     (subst (λ us. Lexes (elements_text all es ++ 59 ∷ 10 ∷ s) us) (sym (append_assoc l (Plain (Stop Semicolon) ∷ []) ws))
     (lexes_elements all element close es (59 ∷ 10 ∷ s) (Plain (Stop Semicolon) ∷ ws) spelled (lexes_end s ws h)))
 
--- what stands behind the name of an array of constants
+-- an array of constants
 consts_lexes : (c : Context) (all : List Item) (n : List ℕ) (bools : Bool) (es : List Basic) (s : List ℕ) (ws : List Word)
     → Each IsSpelled ((item_production c).spell (item_words all (item.Consts n bools es))) → Lexes s ws
     → Lexes ((item_text all (item.Consts n bools es) ++ line_end) ++ s) ((item_production c).spell (item_words all (item.Consts n bools es)) ++ ws)
