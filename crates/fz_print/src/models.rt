@@ -1,6 +1,7 @@
 //! Models as a whole.
 
-ghost use Rattle.std.specs.Prelude.{◌≡◌, ◌++◌, [], codes, IfOk, OnOk};
+ghost use Rattle.std.specs.Prelude.{◌≡◌, ◌≤◌, ◌++◌, [], codes, IfOk, OnOk, Ok, length};
+ghost use Rattle.fz_items.specs.Answers.{max_bytes, model_text};
 ghost use Rattle.fz_model.specs.declared.model.ModelGoal.TheVariants as goal;
 ghost use Rattle.fz_print.specs.Printed as spec;
 
@@ -186,6 +187,18 @@ fn print_parts(
 /// The canonical spelling of a model: its items in order, then its constraints, then its goal, one a line, each line with
 /// LF at its end. Integers are decimal, sets keep their form and lists their order, and no blank stands behind a comma.
 pub fn print_model(alloc: Global, model: &Model) -> Result<Text, Memory>
+    ensures text { IfOk result (λ text. text ≡ spec.printed model.now) }
+
+    // What is printed is read as the same model, where it is not too long for a text.
+    ensures read { IfOk result (λ text. length text ≤ max_bytes → model_text text ≡ Ok model.now) }
+{
+    let _goal = model.goal();
+    let text = print_text(alloc, model)?;
+    Ok(text)
+}
+
+/// The text of a model.
+fn print_text(alloc: Global, model: &Model) -> Result<Text, Memory>
     ensures { IfOk result (λ text. text ≡ spec.printed model.now) }
 {
     print_parts(alloc, model.items(), model.constraints(), model.goal())
