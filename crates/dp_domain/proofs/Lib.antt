@@ -6,9 +6,15 @@ pub mod ExplanationLaws
 pub mod ExplanationSteps
 pub mod ScopeLaws
 pub mod SetLaws
-pub mod SetSteps
+pub mod ExpandLaws
+pub mod GapLaws
+pub mod IntervalSteps
+pub mod ReachSteps
+pub mod RunSteps
+pub mod UnionSteps
 pub mod ShareLaws
 pub mod StateLaws
 pub mod TurnLaws
 pub mod TurnSteps
 pub mod TermLaws
+pub mod TestLaws

@@ -135,6 +135,16 @@ greatest_from-is x xs m h b =
     let q : greatest_from x xs ≤ℤ m = b (greatest_from x xs) (greatest_from-among x xs) in
     omega (arith, ints)
 
+-- a value of a list that is at most each is its least
+pub least-is : (xs : List ℤ) (m : ℤ) → Among m xs → ((v : ℤ) → Among v xs → m ≤ℤ v) → least xs ≡ Some m
+least-is [] m h b = absurd h
+least-is (x ∷ xs) m h b = ap Some (least_from-is x xs m h b)
+
+-- a value of a list that is at least each is its greatest
+pub greatest-is : (xs : List ℤ) (m : ℤ) → Among m xs → ((v : ℤ) → Among v xs → v ≤ℤ m) → greatest xs ≡ Some m
+greatest-is [] m h b = absurd h
+greatest-is (x ∷ xs) m h b = ap Some (greatest_from-is x xs m h b)
+
 -- the least of the values is at most each
 pub least-bound : (xs : List ℤ) (m : ℤ) → least xs ≡ Some m → (v : ℤ) → Among v xs → m ≤ℤ v
 least-bound [] m e v h = absurd h

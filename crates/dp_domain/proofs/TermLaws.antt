@@ -1,12 +1,11 @@
 -- Laws of terms at states and assignments.
-use Rattle.std.specs.Prelude.{◌≡◌, ℕ, ◌<◌, true, false, ◌⊎◌, List, [], ◌∷◌, length, ℤ}
-use Rattle.std.proofs.Common.{refl, sym, subst, inl, inr}
-use Rattle.dp_base.specs.Lists.{Among, Each}
-use Rattle.dp_base.specs.Scopes.{in_order}
+use Rattle.std.specs.Prelude.{◌≡◌, ℕ, ◌<◌, List, [], ◌∷◌, length, ℤ}
+use Rattle.std.proofs.Common.{refl, inl, inr}
+use Rattle.dp_base.specs.Lists.{Among}
 use Rattle.dp_base.proofs.Lists.{Each-among}
 use Rattle.dp_base.proofs.ScopeLaws.{among_in_order}
 use Rattle.dp_domain.specs.Faces.{AgreesOn, Covers, Fixes}
-use Rattle.dp_domain.specs.States.{Domains, LiesIn, IsWithin, is_dead, values}
+use Rattle.dp_domain.specs.States.{Domains, LiesIn, IsWithin}
 use Rattle.dp_domain.specs.Terms.{IsTermOf, AreTermsOf, term_at, term_scope, term_values, term_variables}
 use Rattle.dp_domain.specs.declared.term.Term.{Term}
 use Rattle.dp_domain.specs.declared.term.Term.TheVariants.{Var, Const}

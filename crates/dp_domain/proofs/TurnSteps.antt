@@ -14,7 +14,7 @@ use Rattle.dp_domain.specs.Sets.{IsAscending, IsDomain, IsSmall, least, greatest
 use Rattle.dp_domain.specs.States.{Domains, values}
 use Rattle.dp_domain.specs.Faces.{Face}
 use Rattle.dp_domain.specs.Turns.{at_least, at_most, other_than, gives, or_else, given, given_on, new_lower, new_upper, new_hole}
-use Rattle.dp_domain.proofs.SetLaws.{least_from-is, greatest_from-is}
+use Rattle.dp_domain.proofs.SetLaws.{least-is, greatest-is}
 use Rattle.dp_domain.proofs.StateLaws.{nil-from_test, is_nil-none}
 
 -- of two places in an ascending list the later has the greater value
@@ -29,14 +29,6 @@ places_le xs a j k d h l = elim (cases_eq j k) [
   | inl e ↦ let f : get_or xs j d ≡ get_or xs k d = ap (λ (n : ℕ). get_or xs n d) e in omega (arith, ints)
   | inr n ↦ let p = ascending-places xs a j k d (omega arith) l in omega (arith, ints)
 ]
-
-least-is : (xs : List ℤ) (m : ℤ) → Among m xs → ((v : ℤ) → Among v xs → m ≤ℤ v) → least xs ≡ Some m
-least-is [] m h b = absurd h
-least-is (x ∷ xs) m h b = ap Some (least_from-is x xs m h b)
-
-greatest-is : (xs : List ℤ) (m : ℤ) → Among m xs → ((v : ℤ) → Among v xs → v ≤ℤ m) → greatest xs ≡ Some m
-greatest-is [] m h b = absurd h
-greatest-is (x ∷ xs) m h b = ap Some (greatest_from-is x xs m h b)
 
 -- a value that passes stands at a place that passes
 place_of : (p : ℤ → Bool) (xs : List ℤ) (v d : ℤ) → Among v (filter p xs) → (k : ℕ) × (k < length xs) × (get_or xs k d ≡ v) × (p (get_or xs k d) ≡ true)

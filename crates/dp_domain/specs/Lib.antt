@@ -1,5 +1,6 @@
 pub mod Atoms
 pub mod Sets
+pub mod Intervals
 pub mod States
 pub mod Faces
 pub mod Conditions

@@ -1,7 +1,7 @@
 -- Finite sets of integers, as their values in ascending order.
-use Rattle.std.specs.Prelude.{◌≡◌, ◌^◌, Option, Some, None, Bool, ◌&&◌, if◌then◌else◌, List, [], ◌∷◌, ◌++◌, ℤ, pos, neg_ℤ, ◌+ℤ◌, ◌≤ℤ◌, ◌<ℤ◌, int_le}
+use Rattle.std.specs.Prelude.{◌≡◌, ℕ, zero, suc, ◌^◌, Option, Some, None, Bool, ◌&&◌, if◌then◌else◌, List, [], ◌∷◌, ◌++◌, ℤ, pos, neg_ℤ, negsuc, ◌+ℤ◌, ◌-ℤ◌, ◌≤ℤ◌, ◌<ℤ◌, int_le}
 use Rattle.std.specs.Int.{int_min, int_max}
-use Rattle.std.specs.List.{list_any}
+use Rattle.std.specs.List.{flat_map, list_any}
 use Rattle.dp_base.specs.Lists.{Among, Each}
 
 -- each value is less than all that follow it
@@ -74,11 +74,32 @@ abbrev pub AreApart : List (ℤ × ℤ) → Type 0
 AreApart [] = Unit {0}
 AreApart (i ∷ is) = (i.0 ≤ℤ i.1) × Each (λ j. (i.1 +ℤ pos 1) <ℤ j.0) is × AreApart is
 
--- v goes to the end of the intervals of lesser values: it joins the last, or opens one
-abbrev pub with_later : List (ℤ × ℤ) → ℤ → List (ℤ × ℤ)
-with_later [] v = (v, v) ∷ []
-with_later (i ∷ []) v = if is_next i.1 v then (i.0, v) ∷ [] else i ∷ (v, v) ∷ []
-with_later (i ∷ j ∷ is) v = i ∷ with_later (j ∷ is) v
+-- both ends are within ±10^9
+abbrev pub HasSmallEnds : ℤ × ℤ → Type 0
+HasSmallEnds ends = IsSmall ends.0 × IsSmall ends.1
+
+-- the maximal intervals of a domain
+pub record AreMaximal (intervals : List (ℤ × ℤ)) : Type 0 where
+  pub apart : AreApart intervals
+  pub small : Each HasSmallEnds intervals
+
+-- a number as a count; none below 0
+abbrev pub count_of : ℤ → ℕ
+count_of (pos n) = n
+count_of (negsuc n) = zero
+
+-- so many numbers from v on, in ascending order
+abbrev pub numbers_from : ℤ → ℕ → List ℤ
+numbers_from v zero = []
+numbers_from v (suc n) = v ∷ numbers_from (v +ℤ pos 1) n
+
+-- the numbers from the first to the last, in ascending order
+unfoldable pub numbers_between : ℤ × ℤ → List ℤ
+numbers_between ends = numbers_from ends.0 (count_of ((ends.1 +ℤ pos 1) -ℤ ends.0))
+
+-- the numbers of the intervals, one interval after another; of maximal intervals it is the inverse of `intervals_of`
+unfoldable pub expand : List (ℤ × ℤ) → List ℤ
+expand intervals = flat_map numbers_between intervals
 
 -- whether the number is one of these
 abbrev pub is_among : ℤ → List ℤ → Bool

@@ -1,10 +1,10 @@
 // What a state says of variables beyond the initial state, as atoms.
 
-ghost use Rattle.std.specs.Prelude.{◌≡◌, ◌<◌, ◌++◌, ◌&&◌, Some, false, not, [], ◌∷◌, length, IfOk, OnOk, map, filter};
+ghost use Rattle.std.specs.Prelude.{◌≡◌, ◌<◌, ◌++◌, false, length, IfOk, OnOk, map};
 ghost use Rattle.std.specs.Option.{ForSome};
-ghost use Rattle.dp_domain.specs.Explanations.{Describes, bound_atom, described, description, has, is_hole, is_less};
+ghost use Rattle.dp_domain.specs.Explanations.{Describes, bound_atom, described, description, is_less};
 ghost use Rattle.dp_domain.specs.Faces.{Covers};
-ghost use Rattle.dp_domain.specs.Sets.{IsDomain, IsSmall, greatest, least};
+ghost use Rattle.dp_domain.specs.Sets.{IsDomain, IsSmall};
 ghost use Rattle.dp_domain.specs.States.{IsWithin, is_dead, values};
 ghost use Rattle.dp_domain.specs.Turns.{at_least, at_most, other_than};
 
@@ -40,7 +40,8 @@ fn push_described(
 {
     push_lower(atoms, var, initial.lower(var), now.lower(var))?;
     push_upper(atoms, var, initial.upper(var), now.upper(var))?;
-    push_holes(atoms, var, initial.set(var).values(), now.set(var))
+    let holes = now.set(var).holes(initial.set(var))?;
+    push_holes(atoms, var, &holes)
 }
 
 fn push_lower(
@@ -75,46 +76,12 @@ fn push_upper(
     Ok(())
 }
 
-fn push_holes(atoms: &mut Vec<Atom>, var: VarId, initial: &[i64], now: &Dom) -> Result<(), Memory>
-    requires { IsDomain initial.now }
-    ensures { OnOk result (atoms.new.items ≡ atoms.old.items ++ map (other_than var) (filter (is_hole now.now) initial.now)) }
+fn push_holes(atoms: &mut Vec<Atom>, var: VarId, holes: &Dom) -> Result<(), Memory>
+    ensures { OnOk result (atoms.new.items ≡ atoms.old.items ++ map (other_than var) holes.now) }
 {
-    for value in initial {
-        push_hole(atoms, var, *value, now)?;
+    let values = holes.values()?;
+    for value in &values {
+        atoms.push(Atom::small(var, Op::Ne, *value))?;
     }
     Ok(())
-}
-
-fn push_hole(atoms: &mut Vec<Atom>, var: VarId, value: i64, now: &Dom) -> Result<(), Memory>
-    requires { IsSmall value }
-    ensures { OnOk result (atoms.new.items ≡ atoms.old.items ++ map (other_than var) (filter (is_hole now.now) (value ∷ []))) }
-{
-    if is_hole(now, value) {
-        atoms.push(Atom::small(var, Op::Ne, value))?;
-    }
-    Ok(())
-}
-
-/// Whether the number lies strictly between the bounds, and is not in the set.
-fn is_hole(now: &Dom, value: i64) -> bool
-    ensures { result ≡ is_hole now.now value }
-{
-    is_inside(now, value) && is_lacking(now, value)
-}
-
-/// Whether the number lies strictly between the bounds.
-fn is_inside(now: &Dom, value: i64) -> bool
-    ensures { result ≡ (is_less (least now.now) (Some value) && is_less (Some value) (greatest now.now)) }
-{
-    match (now.lower(), now.upper()) {
-        (Some(lower), Some(upper)) => lower < value && value < upper,
-        _ => false,
-    }
-}
-
-/// Whether the number is not in the set.
-fn is_lacking(now: &Dom, value: i64) -> bool
-    ensures { result ≡ not (has now.now value) }
-{
-    !now.has(value)
 }

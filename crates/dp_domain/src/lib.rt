@@ -6,6 +6,7 @@ mod description;
 mod dom;
 mod explanation;
 mod found;
+mod intervals;
 mod rule;
 mod state;
 mod steps;

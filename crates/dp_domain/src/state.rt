@@ -111,7 +111,7 @@ impl State {
         ensures err { OnErr result (self.new ≡ self.old) }
     {
         let set = &mut self.sets[atom.var().0 as usize];
-        Ok(set.exclude(atom))
+        set.exclude(atom)
     }
 
     /// Takes out the values of the variable that meet each of the atoms on it. Want of memory leaves
@@ -122,8 +122,7 @@ impl State {
         ensures err { OnErr result (self.new ≡ self.old) }
     {
         let set = &mut self.sets[var.0 as usize];
-        set.refute(var, atoms);
-        Ok(())
+        set.refute(var, atoms)
     }
 
     /// What the state says of the variables beyond the initial state: for each in order, its lower bound

@@ -1,4 +1,5 @@
 ghost use Rattle.std.specs.Prelude.{◌≡◌, length, IfOk};
+ghost use Rattle.dp_domain.specs.Sets.{IsSmall};
 
 use super::*;
 use std::alloc::Global;
@@ -73,6 +74,158 @@ fn maximal_intervals(rt: HostRuntime) -> Result<(), Fail> {
     assert_eq!(rt; joined.as_slice(), [(0, 4)].as_slice());
     let mixed = Dom::of(alloc, &[(7, 9), (3, 1), (-2, 4), (0, 1), (8, 12)])?.intervals(alloc)?;
     assert_eq!(rt; mixed.as_slice(), [(-2, 4), (7, 12)].as_slice());
+    Ok(())
+}
+
+const WIDE: i64 = 1_000_000_000;
+
+// An interval with no number.
+const NONE: (i64, i64) = (1, 0);
+
+fn small(number: i64) -> i64
+    ensures { IsSmall result }
+{
+    number.clamp(-WIDE, WIDE)
+}
+
+fn set_of(alloc: Global, intervals: [(i64, i64); 3]) -> Result<Dom, Memory> {
+    let [(a, b), (c, d), (e, f)] = intervals;
+    Dom::of(
+        alloc,
+        &[
+            (small(a), small(b)),
+            (small(c), small(d)),
+            (small(e), small(f)),
+        ],
+    )
+}
+
+#[test]
+fn cuts_of_intervals(rt: HostRuntime) -> Result<(), Fail> {
+    let alloc = rt.alloc();
+    let wide = [(-WIDE, WIDE), NONE, NONE];
+    let two = [(1, 3), (7, 9), NONE];
+    let none = [NONE, NONE, NONE];
+    for (of, op, value, left) in [
+        (wide, Op::Ge, -WIDE, [(-WIDE, WIDE)].as_slice()),
+        (wide, Op::Ge, WIDE, [(WIDE, WIDE)].as_slice()),
+        (wide, Op::Ge, WIDE + 1, [].as_slice()),
+        (wide, Op::Le, 5, [(-WIDE, 5)].as_slice()),
+        (wide, Op::Eq, 6, [(6, 6)].as_slice()),
+        (wide, Op::Eq, -WIDE - 1, [].as_slice()),
+        (wide, Op::Ne, 0, [(-WIDE, -1), (1, WIDE)].as_slice()),
+        (wide, Op::Ne, -WIDE, [(-WIDE + 1, WIDE)].as_slice()),
+        (wide, Op::Ne, WIDE, [(-WIDE, WIDE - 1)].as_slice()),
+        (two, Op::Ge, 3, [(3, 3), (7, 9)].as_slice()),
+        (two, Op::Ge, 4, [(7, 9)].as_slice()),
+        (two, Op::Le, 7, [(1, 3), (7, 7)].as_slice()),
+        (two, Op::Le, 6, [(1, 3)].as_slice()),
+        (two, Op::Eq, 8, [(8, 8)].as_slice()),
+        (two, Op::Eq, 5, [].as_slice()),
+        (two, Op::Ne, 5, [(1, 3), (7, 9)].as_slice()),
+        (two, Op::Ne, 1, [(2, 3), (7, 9)].as_slice()),
+        (two, Op::Ne, 2, [(1, 1), (3, 3), (7, 9)].as_slice()),
+        (two, Op::Ne, 9, [(1, 3), (7, 8)].as_slice()),
+        (none, Op::Ne, 3, [].as_slice()),
+        (none, Op::Ge, 3, [].as_slice()),
+    ] {
+        let mut set = set_of(alloc, of)?;
+        if let Some(atom) = Atom::new(VarId(0), op, value) {
+            let entailed = set.entails(atom);
+            let changed = set.exclude(atom)?;
+            assert_eq!(rt; changed, !entailed, "at {value}");
+        }
+        let cut = set.intervals(alloc)?;
+        assert_eq!(rt; cut.as_slice(), left, "at {value}");
+    }
+    Ok(())
+}
+
+#[test]
+fn unions_of_intervals(rt: HostRuntime) -> Result<(), Fail> {
+    let alloc = rt.alloc();
+    for (of, union) in [
+        ([(1, 3), (4, 6), (7, 7)], [(1, 7)].as_slice()),
+        (
+            [(1, 3), (5, 6), (8, 8)],
+            [(1, 3), (5, 6), (8, 8)].as_slice(),
+        ),
+        ([(1, 9), (2, 3), (4, 5)], [(1, 9)].as_slice()),
+        ([(5, 5), (5, 5), (5, 4)], [(5, 5)].as_slice()),
+        ([(3, 1), (2, 1), (9, 0)], [].as_slice()),
+        (
+            [(WIDE, WIDE), (-WIDE, -WIDE), (-WIDE + 1, 0)],
+            [(-WIDE, 0), (WIDE, WIDE)].as_slice(),
+        ),
+    ] {
+        let found = set_of(alloc, of)?.intervals(alloc)?;
+        assert_eq!(rt; found.as_slice(), union);
+    }
+    Ok(())
+}
+
+#[test]
+fn numbers_that_two_sets_share(rt: HostRuntime) -> Result<(), Fail> {
+    let alloc = rt.alloc();
+    for (one, other, answer) in [
+        ([(1, 3), (7, 9), NONE], [(4, 6), (10, 12), NONE], false),
+        ([(1, 3), (7, 9), NONE], [(4, 7), (10, 12), NONE], true),
+        ([(1, 3), (7, 9), NONE], [(4, 6), (9, 12), NONE], true),
+        ([(1, 3), (7, 9), NONE], [(-5, 0), (4, 6), NONE], false),
+        ([(1, 3), (7, 9), NONE], [(2, 2), NONE, NONE], true),
+        ([NONE, NONE, NONE], [(0, 9), NONE, NONE], false),
+        ([(-WIDE, 0), (5, WIDE), NONE], [(1, 4), NONE, NONE], false),
+        (
+            [(-WIDE, 0), (5, WIDE), NONE],
+            [(1, 4), (WIDE, WIDE), NONE],
+            true,
+        ),
+    ] {
+        let first = set_of(alloc, one)?;
+        let second = set_of(alloc, other)?;
+        assert_eq!(rt; first.shares(&second), answer);
+        assert_eq!(rt; second.shares(&first), answer);
+    }
+    Ok(())
+}
+
+#[test]
+fn refuted_numbers(rt: HostRuntime) -> Result<(), Fail> {
+    let alloc = rt.alloc();
+    let wide = [(-WIDE, WIDE), NONE, NONE];
+    let four = [(2, 5), NONE, NONE];
+    for (of, atoms, left) in [
+        (
+            wide,
+            [(Op::Ge, 3), (Op::Le, 8)],
+            [(-WIDE, 2), (9, WIDE)].as_slice(),
+        ),
+        (
+            wide,
+            [(Op::Ge, 3), (Op::Ne, 8)],
+            [(-WIDE, 2), (8, 8)].as_slice(),
+        ),
+        (wide, [(Op::Ge, 3), (Op::Ge, 3)], [(-WIDE, 2)].as_slice()),
+        (wide, [(Op::Le, 3), (Op::Ge, 4)], [(-WIDE, WIDE)].as_slice()),
+        (
+            wide,
+            [(Op::Eq, 3), (Op::Le, 4)],
+            [(-WIDE, 2), (4, WIDE)].as_slice(),
+        ),
+        (four, [(Op::Ge, 1), (Op::Le, 9)], [].as_slice()),
+        (four, [(Op::Ne, 3), (Op::Ne, 4)], [(3, 4)].as_slice()),
+    ] {
+        let mut set = set_of(alloc, of)?;
+        let mut denial = Vec::new(alloc);
+        for (op, value) in atoms {
+            if let Some(atom) = Atom::new(VarId(0), op, value) {
+                denial.push(atom)?;
+            }
+        }
+        set.refute(VarId(0), &denial)?;
+        let found = set.intervals(alloc)?;
+        assert_eq!(rt; found.as_slice(), left);
+    }
     Ok(())
 }
 

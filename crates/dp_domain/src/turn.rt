@@ -77,7 +77,8 @@ fn new_lower<R: Test>(rule: &R, state: &State, var: VarId) -> Result<Option<Atom
     requires var { var < length state.now }
     ensures { IfOk result (λ atom. atom ≡ new_lower (R.face rule.now) state.now var) }
 {
-    let values = state.set(var).values();
+    let numbers = state.set(var).values()?;
+    let values = numbers.as_slice();
     let count = values.len();
     for place in 0..count {
         let atom = Atom::small(var, Op::Ge, values[count - 1 - place]);
@@ -95,7 +96,8 @@ fn new_upper<R: Test>(rule: &R, state: &State, var: VarId) -> Result<Option<Atom
     requires var { var < length state.now }
     ensures { IfOk result (λ atom. atom ≡ new_upper (R.face rule.now) state.now var) }
 {
-    let values = state.set(var).values();
+    let numbers = state.set(var).values()?;
+    let values = numbers.as_slice();
     for place in 0..values.len() {
         let atom = Atom::small(var, Op::Le, values[place]);
         let gives = gives(rule, state, atom)?;
@@ -112,7 +114,8 @@ fn new_hole<R: Test>(rule: &R, state: &State, var: VarId) -> Result<Option<Atom>
     requires var { var < length state.now }
     ensures { IfOk result (λ atom. atom ≡ new_hole (R.face rule.now) state.now var) }
 {
-    let values = state.set(var).values();
+    let numbers = state.set(var).values()?;
+    let values = numbers.as_slice();
     for place in 0..values.len() {
         let value = values[place];
         let atom = Atom::small(var, Op::Ne, value);

@@ -1,12 +1,13 @@
-use Rattle.std.proofs.Common.{◌∙◌, sym, arith}
+use Rattle.std.proofs.Common.{◌∙◌, sym, arith, subst}
+use Rattle.dp_domain.specs.Sets.{IsDomain}
 use Rattle.dp_domain.proofs.TurnSteps.{passed, hole_found, hole_none}
 use Rattle.dp_domain.proofs.turn.new_hole.Goals as goal
 
 pub returns-then-takes : goal.returns-then-takes
 returns-then-takes g c =
-    hole_found (g.R.Test.face c.args.rule.now) c.args.state.now c.args.var c.loop-place.place c.values-values.result.now _ _
-    (c.values-values.ensures.values ∙ c.set.ensures) c.values-values.ensures.domain (omega arith) c.small-atom.ensures (passed c.values-values.result.now c.loop-place.place c.values-values.ensures.domain (omega arith))
+    hole_found (g.R.Test.face c.args.rule.now) c.args.state.now c.args.var c.loop-place.place c.as_slice-values.result.now _ _
+    (c.as_slice-values.ensures.value ∙ c.in_ok-numbers.ensures.values ∙ c.set.ensures) (subst IsDomain (sym c.as_slice-values.ensures.value) c.in_ok-numbers.ensures.domain) (omega arith) c.small-atom.ensures (passed c.as_slice-values.result.now c.loop-place.place (subst IsDomain (sym c.as_slice-values.ensures.value) c.in_ok-numbers.ensures.domain) (omega arith))
     c.loop-place.invariant (sym c.in_ok-takes.ensures ∙ c.if-takes.true)
 
 pub returns : goal.returns
-returns g c = hole_none (g.R.Test.face c.args.rule.now) c.args.state.now c.args.var c.values-values.result.now (c.values-values.ensures.values ∙ c.set.ensures) (λ k h. c.loop-place.invariant k (omega arith))
+returns g c = hole_none (g.R.Test.face c.args.rule.now) c.args.state.now c.args.var c.as_slice-values.result.now (c.as_slice-values.ensures.value ∙ c.in_ok-numbers.ensures.values ∙ c.set.ensures) (λ k h. c.loop-place.invariant k (omega arith))

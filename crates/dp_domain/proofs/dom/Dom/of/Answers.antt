@@ -1,13 +1,19 @@
--- The sorted numbers of the intervals are a domain.
-use Rattle.dp_domain.specs.Sets.{LiesInOne}
-use Rattle.dp_domain.proofs.SetSteps.{sorted_domain, sorted_numbers}
+-- The union of the intervals.
+use Rattle.std.proofs.Common.{subst, sym}
+use Rattle.dp_base.specs.Lists.{Each}
+use Rattle.dp_domain.specs.Sets.{HasSmallEnds}
+use Rattle.dp_domain.proofs.ExpandLaws.{expand-domain}
+use Rattle.dp_domain.proofs.UnionSteps.{union_collects}
 use Rattle.dp_domain.proofs.dom.Dom.of.Goals as goal
 
+pub merged-requires : goal.merged-requires
+merged-requires c = subst (Each HasSmallEnds) (sym c.in_ok-given.ensures.items) c.requires
+
 pub invariant_of-result : goal.invariant_of-result
-invariant_of-result c = sorted_domain _ _ c.in_ok-unsorted.ensures.small c.in_ok-values.ensures.ascending c.in_ok-values.ensures.numbers
+invariant_of-result c = c.in_ok-intervals.ensures.maximal
 
 pub returns-clause-domain : goal.returns-clause-domain
-returns-clause-domain c = sorted_domain _ _ c.in_ok-unsorted.ensures.small c.in_ok-values.ensures.ascending c.in_ok-values.ensures.numbers
+returns-clause-domain c = expand-domain _ c.in_ok-intervals.ensures.maximal
 
 pub returns-clause-numbers : goal.returns-clause-numbers
-returns-clause-numbers c = sorted_numbers _ _ (LiesInOne c.args.intervals.now) c.in_ok-values.ensures.numbers c.in_ok-unsorted.ensures.numbers
+returns-clause-numbers c = union_collects c.args.intervals.now _ _ c.in_ok-given.ensures.items c.in_ok-intervals.ensures.same
