@@ -9,22 +9,8 @@ use Rattle.dp_domain.specs.Atoms.{Atomic, meets}
 use Rattle.dp_domain.specs.States.{Domains, values, cut, entails, entails_all, fails_one, refuted}
 use Rattle.dp_domain.proofs.AtomLaws.{meets-eq}
 use Rattle.dp_domain.proofs.StateLaws.{Among-cut_all, Among-cut_meets, values-cut_other, entails-at, entails-from}
-use Rattle.dp_checker.specs.Rules.{cut_hint, «is»}
-use Rattle.dp_checker.specs.SoundnessLaws.{length-keep_where, values-keep_where}
-
--- the state with one value of the variable entails an atom on another where the state does
-entails-is_other : (d : Domains) (x : ℕ) (v : ℤ) (a : Atomic) → (a.var ≡ x → ⊥) → entails (cut d («is» x v)) a ≡ entails d a
-entails-is_other d x v a apart = ap (λ (vs : List ℤ). list_all (meets a) vs) (values-cut_other d («is» x v) a.var apart)
-
-one_meets : (d : Domains) (x : ℕ) (v : ℤ) (a : Atomic) → Among v (values d x) → a.var ≡ x → entails (cut d («is» x v)) a ≡ true → meets a v ≡ true
-one_meets d x v a here on e =
-    entails-at (cut d («is» x v)) a v e (subst (λ (y : ℕ). Among v (values (cut d («is» x v)) y)) (sym on) (Among-cut_all d («is» x v) x v here (λ k. (meets-eq x v v).1 refl)))
-
-meets_one : (d : Domains) (x : ℕ) (v : ℤ) (a : Atomic) → a.var ≡ x → meets a v ≡ true → entails (cut d («is» x v)) a ≡ true
-meets_one d x v a on m =
-    entails-from (cut d («is» x v)) a (λ w h.
-    let same : w ≡ v = (meets-eq x v w).0 (Among-cut_meets d («is» x v) w (subst (λ (y : ℕ). Among w (values (cut d («is» x v)) y)) on h)) in
-    subst (λ (u : ℤ). meets a u ≡ true) (sym same) m)
+use Rattle.dp_parts.specs.Rules.{cut_hint, «is»}
+use Rattle.dp_parts.proofs.RuleLaws.{length-keep_where, values-keep_where, entails-is_other, one_meets, meets_one}
 
 filter-whole_list : (p : ℤ → Bool) (xs : List ℤ) → ((v : ℤ) → Among v xs → p v ≡ true) → filter p xs ≡ xs
 filter-whole_list p xs f = filter-whole p xs (list_all-from p xs f)

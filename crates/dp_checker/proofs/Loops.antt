@@ -10,7 +10,7 @@ use Rattle.dp_domain.specs.States.{Domains, entails, entails_all, is_dead, refut
 use Rattle.dp_checker.specs.Judged.{with_last}
 use Rattle.dp_checker.specs.Kept.{AreBelow}
 use Rattle.dp_checker.specs.Known.{cons_some, denials, first_undefined, found, literal_atom}
-use Rattle.dp_checker.specs.Rules.{cut_hint, proves}
+use Rattle.dp_parts.specs.Rules.{cut_hint, proves}
 use Rattle.dp_checker.proofs.Hints.{cut_hint-passed, cut_hint-refuted}
 
 -- the item at a place stands before the rest

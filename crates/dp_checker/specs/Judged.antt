@@ -21,7 +21,7 @@ use Rattle.dp_checker.specs.declared.refusal.StepRefusal.{StepRefusal}
 use Rattle.dp_checker.specs.declared.refusal.Why.{Why}
 use Rattle.dp_checker.specs.declared.refusal.Why.TheVariants.{AfterConclusion, UnknownVar, AtomTwice, UnknownAtom, StepTwice, UnknownStep, UnknownConstraint, WrongLabel, NotImplied, NoClash, NoGoal, WrongBound, NotConcluded, NoConclusion}
 use Rattle.dp_checker.specs.Known.{Known, denials, first_undefined, first_unknown, found, literal_atom, literal_atoms}
-use Rattle.dp_checker.specs.Rules.{concludes, implies, is_labelled, proves}
+use Rattle.dp_parts.specs.Rules.{concludes, implies, is_labelled, proves}
 
 -- the first of two tests that refuses
 abbrev pub or_else : {A : Type 0} → Option A → Option A → Option A

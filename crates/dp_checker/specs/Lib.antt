@@ -1,5 +1,4 @@
 pub mod Known
-pub mod Rules
 pub mod Judged
 pub mod Soundness
 pub mod Kept

@@ -26,7 +26,8 @@ use Rattle.dp_checker.specs.declared.refusal.Why.TheVariants.{AfterConclusion, N
 use Rattle.dp_checker.specs.Judged.{after, against, concluded, conclusion_refusal, first_refusal, grounds, has_goal, inference_denial, initial_domain, is_bound, is_constraint, is_fitting, judge_all, line_refusal, naming, or_else, outcome, parts_of, unless, with_atom, with_last, with_step}
 use Rattle.dp_checker.specs.Kept.{DeniesBelow, IsBacked, MeetsBelow}
 use Rattle.dp_checker.specs.Known.{Known, cons_some, denials, first_undefined, first_unknown, found, literal_atom, literal_atoms, nothing}
-use Rattle.dp_checker.specs.Rules.{concludes, cut_hint, implies, «is», is_labelled, keep_where, proves}
+use Rattle.dp_parts.specs.Rules.{concludes, cut_hint, implies, «is», is_labelled, keep_where, proves}
+use Rattle.dp_parts.proofs.RuleLaws.{length-keep_where, values-keep_where}
 use Rattle.dp_checker.specs.Soundness.{Denies, HoldsOf, IsSupported, Meets}
 
 -- ---- states that an assignment lies in
@@ -90,17 +91,6 @@ inference_denies p sound constraint label denial e s solves met =
     (grounds_each (λ part. Passes s part.face) p constraint label solves.passes) e
 
 -- ---- nogoods
-
--- a state keeps its variables
-pub length-keep_where : (keep : ℕ → ℤ → Bool) (d : Domains) → length (keep_where keep d) ≡ length d
-length-keep_where keep [] = refl
-length-keep_where keep (xs ∷ d) = ap suc (length-keep_where (λ x. keep (x + 1)) d)
-
--- each variable keeps the values that may be kept
-pub values-keep_where : (keep : ℕ → ℤ → Bool) (d : Domains) (x : ℕ) → values (keep_where keep d) x ≡ filter (keep x) (values d x)
-values-keep_where keep [] x = refl
-values-keep_where keep (xs ∷ d) zero = refl
-values-keep_where keep (xs ∷ d) (suc x) = values-keep_where (λ y. keep (y + 1)) d x ∙ ap (λ (y : ℕ). filter (keep y) (values d x)) (add-one x)
 
 lies_hint : (d : Domains) (s : ℕ → ℤ) (denial : List Atomic) → LiesIn s d → (Each (MeetsBelow (length d) s) denial → ⊥) → LiesIn s (cut_hint d denial)
 lies_hint d s denial lies fails x lt =

@@ -6,7 +6,7 @@ ghost use Rattle.dp_parts.specs.Problems.{IsProblem, posed};
 ghost use Rattle.dp_checker.specs.Answers.{IfRefused, known_of};
 ghost use Rattle.dp_checker.specs.Judged.{concluded, conclusion_refusal, has_goal, is_at_least, is_at_most, is_bound};
 ghost use Rattle.dp_checker.specs.Kept.{AreBelow, IsKept};
-ghost use Rattle.dp_checker.specs.Rules.{concludes};
+ghost use Rattle.dp_parts.specs.Rules.{concludes};
 ghost use Rattle.dp_lines.specs.declared.line.Claim.TheVariants.{Unsat, Bound};
 
 use crate::Why;

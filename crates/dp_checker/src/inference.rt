@@ -10,7 +10,7 @@ ghost use Rattle.dp_parts.specs.Problems.{IsProblem, labelled, posed};
 ghost use Rattle.dp_checker.specs.Answers.{IfRefused, known_of};
 ghost use Rattle.dp_checker.specs.Judged.{grounds, inference_denial, inference_refusal, initial_domain, is_constraint, is_fitting, parts_of};
 ghost use Rattle.dp_checker.specs.Kept.{IsKept};
-ghost use Rattle.dp_checker.specs.Rules.{implies, is_labelled};
+ghost use Rattle.dp_parts.specs.Rules.{implies, is_labelled};
 
 use crate::Why;
 use crate::facts::{Denial, Facts};

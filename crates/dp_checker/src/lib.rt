@@ -10,6 +10,8 @@ mod literals;
 mod nogood;
 mod refusal;
 mod start;
+#[cfg(test)]
+mod tests;
 
 pub use checker::Checker;
 pub use fault::CheckFault;

@@ -10,7 +10,7 @@ ghost use Rattle.dp_checker.specs.Answers.{IfRefused, known_of};
 ghost use Rattle.dp_checker.specs.Judged.{nogood_refusal};
 ghost use Rattle.dp_checker.specs.Kept.{AreBelow, IsKept};
 ghost use Rattle.dp_checker.specs.Known.{cons_some, denials, found, literal_atoms};
-ghost use Rattle.dp_checker.specs.Rules.{proves};
+ghost use Rattle.dp_parts.specs.Rules.{proves};
 
 use crate::Why;
 use crate::facts::{Denial, Facts};

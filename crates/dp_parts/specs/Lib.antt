@@ -1,4 +1,5 @@
 pub mod Posed
+pub mod Rules
 pub mod Parts
 pub mod PartLaws
 pub mod Problems

@@ -9,3 +9,5 @@ pub use dp_domain::{Atom, Found, Memory, Rule, State, Steps, Term, Test, VarId};
 
 #[cfg(test)]
 mod tests;
+#[cfg(test)]
+mod turn_tests;

@@ -1,14 +1,10 @@
-ghost use Rattle.std.specs.Prelude.{IsTrue};
-ghost use Rattle.dp_domain.specs.Faces.{Covers};
-
 use super::*;
 use dp_domain::Op;
+use dp_trials::{clash_at, is_counted, range, state_of};
 use std::alloc::Global;
 use std::test::Fail;
 
-const BOUND: i64 = 1_000_000_000;
-
-pub(crate) fn atom(var: u32, op: Op, value: i64) -> Atom {
+fn atom(var: u32, op: Op, value: i64) -> Atom {
     match Atom::new(VarId(var), op, value) {
         Some(atom) => atom,
         None => Atom::default(),
@@ -23,54 +19,14 @@ fn atoms(alloc: Global, rows: &[(u32, Op, i64)]) -> Result<Vec<Atom>, Memory> {
     Ok(atoms)
 }
 
-pub(crate) fn nogood(alloc: Global, rows: &[(u32, Op, i64)]) -> Result<Nogood, Memory> {
+fn nogood(alloc: Global, rows: &[(u32, Op, i64)]) -> Result<Nogood, Memory> {
     Nogood::new(alloc, atoms(alloc, rows)?.as_slice())
-}
-
-fn range(alloc: Global, first: i64, last: i64) -> Result<Dom, Memory> {
-    Dom::range(alloc, first.clamp(-BOUND, BOUND), last.clamp(-BOUND, BOUND))
-}
-
-// Three variables with the numbers between these ends.
-pub(crate) fn state_of(
-    alloc: Global,
-    b: (i64, i64),
-    x: (i64, i64),
-    y: (i64, i64),
-) -> Result<State, Memory> {
-    let mut sets = Vec::new(alloc);
-    sets.push(range(alloc, b.0, b.1)?)?;
-    sets.push(range(alloc, x.0, x.1)?)?;
-    sets.push(range(alloc, y.0, y.1)?)?;
-    Ok(State::new(sets))
-}
-
-// Whether the state has a set for each variable of the rule.
-pub(crate) fn covers_scope<R: Test>(rule: &R, state: &State) -> bool
-    ensures { IsTrue result → Covers (R.face rule.now).scope state.now }
-{
-    for place in 0..rule.scope_len() {
-        let VarId(var) = rule.scope_at(place);
-        if var as usize >= state.len() {
-            return false;
-        }
-    }
-    true
-}
-
-// Whether the rule clashes; None where the state lacks one of its variables.
-fn clash_of<R: Test>(rule: &R, state: &State) -> Result<Option<bool>, Memory> {
-    if covers_scope(rule, state) {
-        Ok(Some(rule.clash(state)?))
-    } else {
-        Ok(None)
-    }
 }
 
 // Whether the nogood of these atoms clashes where variable 0 is 0 or 1, 1 is 5 to 9, and 2 is 1 to 4.
 fn excludes(alloc: Global, rows: &[(u32, Op, i64)]) -> Result<Option<bool>, Memory> {
-    let state = state_of(alloc, (0, 1), (5, 9), (1, 4))?;
-    clash_of(&nogood(alloc, rows)?, &state)
+    let state = state_of(alloc, &[(0, 1), (5, 9), (1, 4)])?;
+    clash_at(&nogood(alloc, rows)?, &state)
 }
 
 #[test]
@@ -118,11 +74,11 @@ fn nogoods_of_several_atoms(rt: HostRuntime) -> Result<(), Fail> {
 #[test]
 fn a_dead_state(rt: HostRuntime) -> Result<(), Fail> {
     let alloc = rt.alloc();
-    let state = state_of(alloc, (0, 1), (5, 9), (3, 2))?;
+    let state = state_of(alloc, &[(0, 1), (5, 9), (3, 2)])?;
     let rule = nogood(alloc, &[(1, Op::Ge, 10)])?;
-    assert_eq!(rt; clash_of(&rule, &state)?, Some(true));
-    let rule = Within::new(None, VarId(1), range(alloc, 5, 9)?)?;
-    assert_eq!(rt; clash_of(&rule, &state)?, Some(true));
+    assert_eq!(rt; clash_at(&rule, &state)?, Some(true));
+    let rule = Within::new(None, VarId(1), range(alloc, (5, 9))?)?;
+    assert_eq!(rt; clash_at(&rule, &state)?, Some(true));
     Ok(())
 }
 
@@ -171,7 +127,7 @@ fn points_of_a_nogood(rt: HostRuntime) -> Result<(), Fail> {
 fn within(alloc: Global, b: (i64, i64), x: (i64, i64)) -> Result<Option<bool>, Fail> {
     let set = Dom::of(alloc, &[(7, 8), (2, 2)])?;
     let rule = Within::new(Some(atom(0, Op::Ge, 1)), VarId(1), set)?;
-    Ok(clash_of(&rule, &state_of(alloc, b, x, (1, 4))?)?)
+    Ok(clash_at(&rule, &state_of(alloc, &[b, x, (1, 4)])?)?)
 }
 
 #[test]
@@ -197,8 +153,8 @@ fn jumped(alloc: Global) -> Result<(Option<bool>, Option<bool>), Fail> {
     sets.push(Dom::of(alloc, &[(1, 1), (9, 9)])?)?;
     let state = State::new(sets);
     let rule = Within::new(None, VarId(0), Dom::of(alloc, &[(7, 8), (2, 2)])?)?;
-    let empty = Within::new(None, VarId(0), range(alloc, 1, 0)?)?;
-    Ok((clash_of(&rule, &state)?, clash_of(&empty, &state)?))
+    let empty = Within::new(None, VarId(0), range(alloc, (1, 0))?)?;
+    Ok((clash_at(&rule, &state)?, clash_at(&empty, &state)?))
 }
 
 #[test]
@@ -214,13 +170,13 @@ fn conditions_that_are_refused(rt: HostRuntime) -> Result<(), Fail> {
         let own = Within::new(
             Some(atom(1, Op::Ge, 1)),
             VarId(1),
-            range(alloc, first, last)?,
+            range(alloc, (first, last))?,
         );
         assert_eq!(rt; own.err(), Some(BadCondition));
         let other = Within::new(
             Some(atom(0, Op::Ge, 1)),
             VarId(1),
-            range(alloc, first, last)?,
+            range(alloc, (first, last))?,
         );
         assert_eq!(rt; other.err(), None);
     }
@@ -230,22 +186,11 @@ fn conditions_that_are_refused(rt: HostRuntime) -> Result<(), Fail> {
 #[test]
 fn what_is_put_in_is_shown(rt: HostRuntime) -> Result<(), Fail> {
     let cond = Some(atom(0, Op::Ge, 1));
-    let rule = Within::new(cond, VarId(1), range(rt.alloc(), 2, 4)?)?;
+    let rule = Within::new(cond, VarId(1), range(rt.alloc(), (2, 4))?)?;
     assert_eq!(rt; rule.cond(), cond);
     assert_eq!(rt; rule.var(), VarId(1));
     assert_eq!(rt; rule.set().upper(), Some(4));
     Ok(())
-}
-
-// Whether the variables of the rule are 0, 1, 2 and so on, as many as there are.
-fn is_counted<R: Test>(rule: &R, count: usize) -> bool {
-    for place in 0..rule.scope_len() {
-        let VarId(var) = rule.scope_at(place);
-        if var as usize != place {
-            return false;
-        }
-    }
-    rule.scope_len() == count
 }
 
 #[test]
@@ -261,10 +206,14 @@ fn scopes(rt: HostRuntime) -> Result<(), Fail> {
         )
     );
     for (cond, var) in [(0, 1), (1, 0)] {
-        let rule = Within::new(Some(atom(cond, Op::Ge, 1)), VarId(var), range(alloc, 1, 2)?)?;
+        let rule = Within::new(
+            Some(atom(cond, Op::Ge, 1)),
+            VarId(var),
+            range(alloc, (1, 2))?,
+        )?;
         assert!(rt; is_counted(&rule, 2), "{cond} {var}");
     }
-    assert!(rt; is_counted(&Within::new(None, VarId(0), range(alloc, 1, 2)?)?, 1));
+    assert!(rt; is_counted(&Within::new(None, VarId(0), range(alloc, (1, 2))?)?, 1));
     Ok(())
 }
 
@@ -273,6 +222,6 @@ fn crosses_threads<T: Send + Sync>(_value: &T) {}
 #[test]
 fn rules_cross_threads(rt: HostRuntime) -> Result<(), Fail> {
     crosses_threads(&nogood(rt.alloc(), &[])?);
-    crosses_threads(&Within::new(None, VarId(0), range(rt.alloc(), 1, 2)?)?);
+    crosses_threads(&Within::new(None, VarId(0), range(rt.alloc(), (1, 2))?)?);
     Ok(())
 }

@@ -1,12 +1,7 @@
-ghost use Rattle.std.specs.Prelude.{IsTrue};
-ghost use Rattle.dp_domain.specs.Faces.{Covers};
-
 use super::*;
-use dp_domain::Dom;
+use dp_trials::{LARGEST, clash_at, is_counted, state_of};
 use std::alloc::Global;
 use std::test::Fail;
-
-const LARGEST: i64 = 1_000_000_000;
 
 const S: Term = Term::Var(VarId(0));
 
@@ -64,45 +59,6 @@ fn numbers_that_are_refused(rt: HostRuntime) -> Result<(), Fail> {
     Ok(())
 }
 
-fn range(alloc: Global, (first, last): (i64, i64)) -> Result<Dom, Memory> {
-    Dom::range(
-        alloc,
-        first.clamp(-LARGEST, LARGEST),
-        last.clamp(-LARGEST, LARGEST),
-    )
-}
-
-// Two variables with the numbers between these ends.
-pub(crate) fn state_of(alloc: Global, s: (i64, i64), t: (i64, i64)) -> Result<State, Memory> {
-    let mut sets = Vec::new(alloc);
-    sets.push(range(alloc, s)?)?;
-    sets.push(range(alloc, t)?)?;
-    Ok(State::new(sets))
-}
-
-// Whether the state has a set for each variable of the rule.
-pub(crate) fn covers_scope<R: Test>(rule: &R, state: &State) -> bool
-    ensures { IsTrue result → Covers (R.face rule.now).scope state.now }
-{
-    for place in 0..rule.scope_len() {
-        let VarId(var) = rule.scope_at(place);
-        if var as usize >= state.len() {
-            return false;
-        }
-    }
-    true
-}
-
-// Whether the rule clashes where the first variable has this range; None where the state lacks one.
-fn clash_of<R: Test>(alloc: Global, rule: &R, s: (i64, i64)) -> Result<Option<bool>, Memory> {
-    let state = state_of(alloc, s, (0, 0))?;
-    if covers_scope(rule, &state) {
-        Ok(Some(rule.clash(&state)?))
-    } else {
-        Ok(None)
-    }
-}
-
 #[test]
 fn a_task_beside_one_from_0_to_2(rt: HostRuntime) -> Result<(), Fail> {
     let alloc = rt.alloc();
@@ -121,7 +77,7 @@ fn a_task_beside_one_from_0_to_2(rt: HostRuntime) -> Result<(), Fail> {
     ] {
         let rule = cumulative(alloc, &[ZERO, S], &[2, duration], &[1, usage], capacity)?;
         assert_eq!(rt;
-            clash_of(alloc, &rule, (first, last))?,
+            clash_at(&rule, &state_of(alloc, &[(first, last), (0, 0)])?)?,
             Some(wanted),
             "{first} {last} {duration} {usage} {capacity}"
         );
@@ -134,8 +90,14 @@ fn one_start_at_two_places(rt: HostRuntime) -> Result<(), Fail> {
     let alloc = rt.alloc();
     let rule = cumulative(alloc, &[S, S], &[2, 2], &[1, 1], 1)?;
     assert!(rt; is_counted(&rule, 1));
-    assert_eq!(rt; clash_of(alloc, &rule, (0, 1))?, Some(true));
-    assert_eq!(rt; clash_of(alloc, &rule, (0, 2))?, Some(false));
+    assert_eq!(rt;
+        clash_at(&rule, &state_of(alloc, &[(0, 1), (0, 0)])?)?,
+        Some(true)
+    );
+    assert_eq!(rt;
+        clash_at(&rule, &state_of(alloc, &[(0, 2), (0, 0)])?)?,
+        Some(false)
+    );
     Ok(())
 }
 
@@ -149,20 +111,13 @@ fn starts_at_the_ends_of_64_bits(rt: HostRuntime) -> Result<(), Fail> {
     ] {
         let starts = [Term::Const(start), Term::Const(last)];
         let rule = cumulative(alloc, &starts, &[LARGEST, LARGEST], &[1, 1], 1)?;
-        assert_eq!(rt; clash_of(alloc, &rule, (0, 0))?, Some(wanted), "{start}");
+        assert_eq!(rt;
+            clash_at(&rule, &state_of(alloc, &[(0, 0), (0, 0)])?)?,
+            Some(wanted),
+            "{start}"
+        );
     }
     Ok(())
-}
-
-// Whether the variables of the rule are 0, 1, 2 and so on, as many as there are.
-fn is_counted<R: Test>(rule: &R, count: usize) -> bool {
-    for place in 0..rule.scope_len() {
-        let VarId(var) = rule.scope_at(place);
-        if var as usize != place {
-            return false;
-        }
-    }
-    rule.scope_len() == count
 }
 
 #[test]

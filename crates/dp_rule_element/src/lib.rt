@@ -9,3 +9,5 @@ pub use element::Element;
 
 #[cfg(test)]
 mod tests;
+#[cfg(test)]
+mod turn_tests;

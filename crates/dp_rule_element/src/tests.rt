@@ -1,57 +1,20 @@
-ghost use Rattle.std.specs.Prelude.{◌≡◌, ◌<◌, false, IsTrue};
-ghost use Rattle.dp_domain.specs.Faces.{Covers};
-ghost use Rattle.dp_domain.specs.States.{is_dead};
-
 use super::*;
-use dp_domain::{Dom, Op};
+use dp_domain::Dom;
+use dp_trials::{clash_at, is_counted, state_of};
 use std::alloc::Global;
-use std::marker::Brand;
-use std::sync::ledger::{Blank, Ledger};
 use std::test::Fail;
 
-const BOUND: i64 = 1_000_000_000;
-
-fn variable(place: u32) -> Term {
+pub(crate) fn variable(place: u32) -> Term {
     Term::Var(VarId(place))
 }
 
-fn element(alloc: Global, index: Term, array: &[Term], value: Term) -> Result<Element, Memory> {
+pub(crate) fn element(
+    alloc: Global,
+    index: Term,
+    array: &[Term],
+    value: Term,
+) -> Result<Element, Memory> {
     Element::new(alloc, index, Vec::from_slice(alloc, array)?, value)
-}
-
-fn range(alloc: Global, first: i64, last: i64) -> Result<Dom, Memory> {
-    Dom::range(alloc, first.clamp(-BOUND, BOUND), last.clamp(-BOUND, BOUND))
-}
-
-// Three variables with the numbers between these ends.
-fn state_of(alloc: Global, i: (i64, i64), x: (i64, i64), v: (i64, i64)) -> Result<State, Memory> {
-    let mut sets = Vec::new(alloc);
-    sets.push(range(alloc, i.0, i.1)?)?;
-    sets.push(range(alloc, x.0, x.1)?)?;
-    sets.push(range(alloc, v.0, v.1)?)?;
-    Ok(State::new(sets))
-}
-
-// Whether the state has a set for each variable of the rule.
-fn covers_scope<R: Test>(rule: &R, state: &State) -> bool
-    ensures { IsTrue result → Covers (R.face rule.now).scope state.now }
-{
-    for place in 0..rule.scope_len() {
-        let VarId(var) = rule.scope_at(place);
-        if var as usize >= state.len() {
-            return false;
-        }
-    }
-    true
-}
-
-// Whether the rule clashes; None where the state lacks one of its variables.
-fn clash_of<R: Test>(rule: &R, state: &State) -> Result<Option<bool>, Memory> {
-    if covers_scope(rule, state) {
-        Ok(Some(rule.clash(state)?))
-    } else {
-        Ok(None)
-    }
 }
 
 // Whether variable 2 as the entry of 4, variable 1 and 6 at variable 0 clashes.
@@ -62,9 +25,9 @@ fn selected(
     v: (i64, i64),
 ) -> Result<Option<bool>, Memory> {
     let array = [Term::Const(4), variable(1), Term::Const(6)];
-    clash_of(
+    clash_at(
         &element(alloc, variable(0), &array, variable(2))?,
-        &state_of(alloc, i, x, v)?,
+        &state_of(alloc, &[i, x, v])?,
     )
 }
 
@@ -93,9 +56,9 @@ fn entries_at_a_state(rt: HostRuntime) -> Result<(), Fail> {
 // Whether 4 as the entry of 4, variable 1 and 6 at this index clashes where variable 1 is 4 to 9.
 fn at_number(alloc: Global, index: i64) -> Result<Option<bool>, Memory> {
     let array = [Term::Const(4), variable(1), Term::Const(6)];
-    clash_of(
+    clash_at(
         &element(alloc, Term::Const(index), &array, Term::Const(4))?,
-        &state_of(alloc, (0, 1), (4, 9), (0, 1))?,
+        &state_of(alloc, &[(0, 1), (4, 9), (0, 1)])?,
     )
 }
 
@@ -121,7 +84,7 @@ fn jumped(alloc: Global, index: Term, array: &[Term], value: i64) -> Result<Opti
     let mut sets = Vec::new(alloc);
     sets.push(Dom::of(alloc, &[(0, 0), (2, 2)])?)?;
     let rule = element(alloc, index, array, Term::Const(value))?;
-    Ok(clash_of(&rule, &State::new(sets))?)
+    Ok(clash_at(&rule, &State::new(sets))?)
 }
 
 #[test]
@@ -152,49 +115,6 @@ fn holes_and_empty_arrays(rt: HostRuntime) -> Result<(), Fail> {
     Ok(())
 }
 
-// The turn, by a counter of its own.
-fn counted<R: Rule, L: Ledger>(
-    rule: &R,
-    state: &State,
-    blank: Blank,
-) -> Result<Option<Found>, Memory>
-    requires covers { Covers (R.face rule.now).scope state.now }
-    requires alive { is_dead state.now ≡ false }
-    requires name { blank.name ≡ L.name }
-    requires parts { blank.parts ≡ L.parts }
-    requires some { 0 < blank.parts }
-{
-    let mut steps = Steps::<L>::new(blank);
-    rule.next(state, &mut steps)
-}
-
-// The rule's turn; Clash also where the state is empty or lacks one of its variables.
-fn turn<R: Rule>(rule: &R, state: &State) -> Result<Option<Found>, Memory> {
-    if !covers_scope(rule, state) || state.dead() {
-        return Ok(Some(Found::Clash));
-    }
-    counted::<R, Brand>(rule, state, Blank::new(1))
-}
-
-// The turn of 3 as the entry of i, 5 and i at i, where i is variable 0.
-fn turn_between(alloc: Global, first: i64, last: i64) -> Result<Option<Found>, Memory> {
-    let array = [variable(0), Term::Const(5), variable(0)];
-    turn(
-        &element(alloc, variable(0), &array, Term::Const(3))?,
-        &state_of(alloc, (first, last), (0, 1), (0, 1))?,
-    )
-}
-
-#[test]
-fn index_in_its_own_array(rt: HostRuntime) -> Result<(), Fail> {
-    let alloc = rt.alloc();
-    let at_least = Atom::new(VarId(0), Op::Ge, 3).map(Found::Atom);
-    assert_eq!(rt; turn_between(alloc, 0, 3)?, at_least);
-    assert_eq!(rt; turn_between(alloc, 3, 3)?, None);
-    assert_eq!(rt; turn_between(alloc, 0, 2)?, Some(Found::Clash));
-    Ok(())
-}
-
 #[test]
 fn points_are_those_of_the_index(rt: HostRuntime) -> Result<(), Fail> {
     let alloc = rt.alloc();
@@ -214,10 +134,7 @@ fn what_is_put_in_is_shown(rt: HostRuntime) -> Result<(), Fail> {
     assert_eq!(rt; rule.index(), variable(2));
     assert!(rt; rule.array() == array.as_slice());
     assert_eq!(rt; rule.value(), variable(0));
-    assert_eq!(rt; rule.scope_len(), 3, "each variable once");
-    for place in 0..rule.scope_len() {
-        assert_eq!(rt; rule.scope_at(place), VarId(place as u32));
-    }
+    assert!(rt; is_counted(&rule, 3), "each variable once");
     Ok(())
 }
 

@@ -1,8 +1,6 @@
-ghost use Rattle.std.specs.Prelude.{IsTrue};
-ghost use Rattle.dp_domain.specs.Faces.{Covers};
-
 use super::*;
 use dp_domain::{Dom, Op};
+use dp_trials::{clash_at, is_counted, state_of};
 use std::alloc::Global;
 use std::test::Fail;
 
@@ -86,41 +84,6 @@ fn right_sides_and_conditions_that_are_refused(rt: HostRuntime) -> Result<(), Fa
     Ok(())
 }
 
-fn range(alloc: Global, first: i64, last: i64) -> Result<Dom, Memory> {
-    Dom::range(alloc, first.clamp(-BOUND, BOUND), last.clamp(-BOUND, BOUND))
-}
-
-// Three variables with the numbers between these ends.
-fn state_of(alloc: Global, b: (i64, i64), x: (i64, i64), y: (i64, i64)) -> Result<State, Memory> {
-    let mut sets = Vec::new(alloc);
-    sets.push(range(alloc, b.0, b.1)?)?;
-    sets.push(range(alloc, x.0, x.1)?)?;
-    sets.push(range(alloc, y.0, y.1)?)?;
-    Ok(State::new(sets))
-}
-
-// Whether the state has a set for each variable of the rule.
-pub(crate) fn covers_scope<R: Test>(rule: &R, state: &State) -> bool
-    ensures { IsTrue result → Covers (R.face rule.now).scope state.now }
-{
-    for place in 0..rule.scope_len() {
-        let VarId(var) = rule.scope_at(place);
-        if var as usize >= state.len() {
-            return false;
-        }
-    }
-    true
-}
-
-// Whether the rule clashes; None where the state lacks one of its variables.
-fn clash_of<R: Test>(rule: &R, state: &State) -> Result<Option<bool>, Memory> {
-    if covers_scope(rule, state) {
-        Ok(Some(rule.clash(state)?))
-    } else {
-        Ok(None)
-    }
-}
-
 // Whether 2x - 3y at most the number clashes under [b >= 1].
 fn at_most(
     alloc: Global,
@@ -134,7 +97,7 @@ fn at_most(
         two(alloc, 2, 1, -3, 2)?,
         rhs,
     )?;
-    Ok(clash_of(&rule, &state_of(alloc, b, x, y)?)?)
+    Ok(clash_at(&rule, &state_of(alloc, &[b, x, y])?)?)
 }
 
 #[test]
@@ -169,7 +132,7 @@ fn differs(
         two(alloc, 2, 1, -3, 2)?,
         rhs,
     )?;
-    Ok(clash_of(&rule, &state_of(alloc, b, x, y)?)?)
+    Ok(clash_at(&rule, &state_of(alloc, &[b, x, y])?)?)
 }
 
 #[test]
@@ -196,8 +159,8 @@ fn sums_of_only_values(rt: HostRuntime) -> Result<(), Fail> {
 // The largest sum that is at most the number at two variables' least values of +-10^9.
 fn large(alloc: Global, rhs: i128) -> Result<Option<bool>, Fail> {
     let rule = LinLe::new(None, two(alloc, LARGEST, 1, -LARGEST, 2)?, rhs)?;
-    let state = state_of(alloc, (0, 1), (-BOUND, 1 - BOUND), (BOUND - 1, BOUND))?;
-    Ok(clash_of(&rule, &state)?)
+    let state = state_of(alloc, &[(0, 1), (-BOUND, 1 - BOUND), (BOUND - 1, BOUND)])?;
+    Ok(clash_at(&rule, &state)?)
 }
 
 #[test]
@@ -212,10 +175,10 @@ fn large_sums(rt: HostRuntime) -> Result<(), Fail> {
 
 // Whether the empty sum clashes, as one of at most the number and as one other than it.
 fn empty(alloc: Global, rhs: i128) -> Result<(Option<bool>, Option<bool>), Fail> {
-    let state = state_of(alloc, (0, 1), (5, 9), (1, 4))?;
+    let state = state_of(alloc, &[(0, 1), (5, 9), (1, 4)])?;
     let at_most = LinLe::new(None, Vec::new(alloc), rhs)?;
     let differs = LinNe::new(None, Vec::new(alloc), rhs)?;
-    Ok((clash_of(&at_most, &state)?, clash_of(&differs, &state)?))
+    Ok((clash_at(&at_most, &state)?, clash_at(&differs, &state)?))
 }
 
 #[test]
@@ -237,7 +200,7 @@ fn jumped(alloc: Global, rhs: i128) -> Result<Option<bool>, Fail> {
     let mut terms = Vec::new(alloc);
     terms.push((1, VarId(0)))?;
     let rule = LinLe::new(None, terms, rhs)?;
-    Ok(clash_of(&rule, &State::new(sets))?)
+    Ok(clash_at(&rule, &State::new(sets))?)
 }
 
 #[test]
@@ -259,17 +222,6 @@ fn what_is_put_in_is_shown(rt: HostRuntime) -> Result<(), Fail> {
     assert_eq!(rt; differs.terms().len(), 2);
     assert_eq!(rt; differs.rhs(), 7);
     Ok(())
-}
-
-// Whether the variables of the rule are 0, 1, 2 and so on, as many as there are.
-fn is_counted<R: Test>(rule: &R, count: usize) -> bool {
-    for place in 0..rule.scope_len() {
-        let VarId(var) = rule.scope_at(place);
-        if var as usize != place {
-            return false;
-        }
-    }
-    rule.scope_len() == count
 }
 
 #[test]

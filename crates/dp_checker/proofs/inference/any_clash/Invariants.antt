@@ -1,7 +1,7 @@
 use Rattle.std.proofs.Common.{◌≡◌, ◌&&◌, map, drop}
 use Rattle.std.specs.List.{list_any}
 use Rattle.dp_parts.specs.Problems.{labelled}
-use Rattle.dp_checker.specs.Rules.{is_labelled}
+use Rattle.dp_parts.specs.Rules.{is_labelled}
 use Rattle.dp_checker.proofs.inference.any_clash.Given as goal
 
 abbrev pub invariant-loop-part : goal.invariant-loop-part

@@ -2,7 +2,7 @@ use Rattle.std.proofs.Common.{◌≡◌, length, drop}
 use Rattle.dp_base.specs.Lists.{Each}
 use Rattle.dp_checker.specs.Kept.{AreBelow}
 use Rattle.dp_checker.specs.Known.{denials}
-use Rattle.dp_checker.specs.Rules.{proves}
+use Rattle.dp_parts.specs.Rules.{proves}
 use Rattle.dp_checker.proofs.nogood.prove.Given as goal
 
 abbrev pub invariant-loop-hint : goal.invariant-loop-hint
