@@ -86,7 +86,7 @@ within l count passed (raw ∷ raws) h e =
     omega (arith, k)
 
 -- a log that is read to its end is within its limit
-read_small : (text : List ℕ) → (lines limits text).refusal ≡ None → length text ≤ 2 ^ 40
+pub read_small : (text : List ℕ) → (lines limits text).refusal ≡ None → length text ≤ 2 ^ 40
 read_small text e = let k = within limits 0 0 (raw_lines text) (omega arith) e in let s = all_sizes text in omega (arith, k, s)
 
 ended_small : (text : List ℕ) (refusal : Option LineRefusal) (r : Result Verdict StepRefusal) → (refusal ≡ None → length text ≤ 2 ^ 40) → IsSmallAnswer text (ended refusal (conclude r))

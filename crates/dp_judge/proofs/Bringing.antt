@@ -22,7 +22,8 @@ use Rattle.dp_judge.specs.Logs.{answer_after, conclude}
 use Rattle.dp_judge.specs.declared.answer.LogAnswer.TheVariants.{Unread, Refused as Refusal}
 use Rattle.dp_judge.specs.declared.judge.Next.{Next}
 use Rattle.dp_judge.specs.declared.judge.Next.TheVariants.{Taken, Ended, Unread as UnreadNext, Refused}
-use Rattle.dp_judge.proofs.NextLaws.{ask_counts, fewer_held, number_is, numbers_left, refused_told, same_left, taken_same}
+use Rattle.dp_judge.proofs.NextLaws.{number_is, numbers_left, refused_told, taken_same}
+use Rattle.dp_lines.proofs.LeftLaws.{ask_counts, fewer_held, same_left}
 
 -- what is left, where nothing more comes
 pub left_now : (s now : State) (change : Lines → Lines) → Leaves s change now → left s ≡ change (left now)

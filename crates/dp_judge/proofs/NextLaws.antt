@@ -1,12 +1,11 @@
 -- What the next line says of the answer for what is left.
-use Rattle.std.specs.Prelude.{◌≡◌, ℕ, ◌+◌, ◌<◌, Bool, true, false, ◌||◌, if◌then◌else◌, Option, Some, None, Result, Ok, Err, List, [], ◌∷◌, ◌++◌, length, drop, nat_eq}
-use Rattle.std.proofs.Common.{refl, sym, ◌∙◌, ap, subst, arith}
+use Rattle.std.specs.Prelude.{◌≡◌, ℕ, ◌+◌, ◌<◌, true, false, Option, Some, None, Result, Ok, Err, List, [], ◌∷◌, nat_eq}
+use Rattle.std.proofs.Common.{refl, sym, ◌∙◌, ap, arith}
 use Rattle.std.proofs.lemmas.Bool.Decides.{nat_tests}
-use Rattle.std.proofs.lemmas.List.{append-nil}
 use Rattle.dp_base.specs.Lists.{Each}
 use Rattle.dp_lines.specs.Lines.{Lines, judged, led_by, lines_behind, with_line}
 use Rattle.dp_lines.specs.RawLines.{Raw, raw_lines, size}
-use Rattle.dp_lines.specs.Readers.{State, after, answer_by, answer_of, decided, fed, left, step_from, step_of}
+use Rattle.dp_lines.specs.Readers.{State, after, answer_by, answer_of, left, step_of}
 use Rattle.dp_lines.specs.Spelling.{line_text}
 use Rattle.dp_lines.specs.declared.judge.Judged.{Judged}
 use Rattle.dp_lines.specs.declared.judge.Judged.TheVariants.{Blank, Given, Refused as RefusedLine}
@@ -16,8 +15,6 @@ use Rattle.dp_lines.specs.declared.refusal.LineRefusal.{LineRefusal}
 use Rattle.dp_lines.specs.declared.refusal.Limits.{Limits}
 use Rattle.dp_lines.specs.declared.step.First.{First}
 use Rattle.dp_lines.specs.declared.step.First.TheVariants.{Line as LineFirst, Refusal, Nothing}
-use Rattle.dp_lines.specs.declared.step.Step.{Step}
-use Rattle.dp_lines.proofs.StepLaws.{counts}
 use Rattle.dp_parts.specs.Posed.{Posed}
 use Rattle.dp_checker.specs.Judged.{judge, judge_all, outcome}
 use Rattle.dp_checker.specs.Known.{Known}
@@ -40,76 +37,6 @@ by_first Nothing count n line e = absurd cc
 -- its number is how many lines are passed then
 pub number_is : (s : State) (n : ℕ) (line : Line) → Ok (Some (n, line)) ≡ answer_of s → n ≡ (after s).count
 number_is s n line e = by_first (step_of s).first (step_of s).count n line e
-
--- ---- how many lines there are
-
--- nothing more comes
-pub same_left : (s : State) → left (fed s []) ≡ left s
-same_left s = ap (λ (t : List ℕ). left (record s { held = t })) (append-nil s.held)
-
-no_more : (used : ℕ) (held : List ℕ) → length (raw_lines (drop used held ++ [])) ≡ length (raw_lines (drop used held))
-no_more used held = ap (λ (t : List ℕ). length (raw_lines t)) (append-nil (drop used held))
-
-asked : (s : State) (refusal : Option LineRefusal) → s.refusal ≡ refusal → refusal ≡ None →
-    step_of s ≡ step_from s.limits s.ended s.passed s.count 0 (raw_lines s.held)
-asked s refusal e none = rw (e ∙ none) refl
-
--- a call that asks passes lines, and holds those that it does not pass
-pub ask_counts : (s : State) → s.refusal ≡ None → s.count + length (raw_lines s.held) ≡ (after s).count + length (raw_lines (after s).held)
-ask_counts s none =
-    let e = asked s s.refusal refl none in
-    let k = counts s.limits s.ended s.passed s.count 0 s.held [] (raw_lines s.held) refl (λ h. refl) in
-    let before = no_more 0 s.held in
-    let step = step_from s.limits s.ended s.passed s.count 0 (raw_lines s.held) in
-    let behind = no_more step.used s.held in
-    let moved : s.count + length (raw_lines s.held) ≡ step.count + length (raw_lines (drop step.used s.held)) =
-    sym (ap (λ n. s.count + n) before) ∙ k ∙ ap (λ n. step.count + n) behind in
-    moved ∙ sym (ap (λ (t : Step). t.count + length (raw_lines (drop t.used s.held))) e)
-
-abbrev IfLine : First → Type 0 → Type 0
-IfLine (LineFirst line) fact = fact
-IfLine (Refusal refusal) fact = Unit {0}
-IfLine Nothing fact = Unit {0}
-
-grows_by : (count : ℕ) (j : Judged) (n used more : ℕ) (next : Step) → n ≡ count → IfLine next.first (count + 1 < next.count) → IfLine (decided j n used more next).first (count < (decided j n used more next).count)
-grows_by count Blank n used more next e h = later next.first next.count h
-  where
-    later : (first : First) (k : ℕ) → IfLine first (count + 1 < k) → IfLine first (count < k)
-    later (LineFirst line) k h = omega (arith, h)
-    later (Refusal refusal) k h = tt
-    later Nothing k h = tt
-grows_by count (Given line) n used more next e h = omega (arith, e)
-grows_by count (RefusedLine refusal) n used more next e h = tt
-
-by_whole : (b : Bool) (count : ℕ) (whole part : Step) → IfLine whole.first (count < whole.count) → IfLine part.first (count < part.count) →
-    IfLine (if b then whole else part).first (count < (if b then whole else part).count)
-by_whole true count whole part h k = h
-by_whole false count whole part h k = k
-
-grows : (limits : Limits) (ended : Bool) (passed count used : ℕ) (raws : List Raw) →
-    IfLine (step_from limits ended passed count used raws).first (count < (step_from limits ended passed count used raws).count)
-grows limits ended passed count used [] = tt
-grows limits ended passed count used (raw ∷ raws) =
-    by_whole (raw.fed || ended) count
-    (decided (judged limits (count + 1) (passed + used) raw) count used (size raw) (step_from limits ended passed (count + 1) (used + size raw) raws))
-    (record { first = Nothing; count = count; used = used })
-    (grows_by count (judged limits (count + 1) (passed + used) raw) count used (size raw) (step_from limits ended passed (count + 1) (used + size raw) raws) refl
-    (grows limits ended passed (count + 1) (used + size raw) raws))
-    tt
-
-line_first : (first : First) (count n : ℕ) (line : Line) (fact : Type 0) → Ok (Some (n, line)) ≡ answer_by first count → IfLine first fact → fact
-line_first (LineFirst l) count n line fact e h = h
-line_first (Refusal r) count n line fact e h = absurd cc
-line_first Nothing count n line fact e h = absurd cc
-
--- a line that is given is passed, so fewer are held
-pub fewer_held : (s : State) (n : ℕ) (line : Line) → s.refusal ≡ None → Ok (Some (n, line)) ≡ answer_of s → length (raw_lines (after s).held) < length (raw_lines s.held)
-fewer_held s n line none e =
-    let step = step_from s.limits s.ended s.passed s.count 0 (raw_lines s.held) in
-    let same = asked s s.refusal refl none in
-    let more : s.count < (step_of s).count = line_first (step_of s).first (step_of s).count n line (s.count < (step_of s).count) e
-    (subst (λ (t : Step). IfLine t.first (s.count < t.count)) (sym same) (grows s.limits s.ended s.passed s.count 0 (raw_lines s.held))) in
-    let k = ask_counts s none in omega (arith, k, more)
 
 -- ---- the numbers of the lines that are left
 

@@ -1,6 +1,7 @@
 pub mod AllowedLaws
 pub mod FigureLaws
 pub mod FlawLaws
+pub mod LeftLaws
 pub mod LenientLaws
 pub mod ManyLaws
 pub mod RawLaws
