@@ -12,6 +12,7 @@ pub mod Places
 pub mod Refusals
 pub mod Rests
 pub mod Seen
+pub mod Spelling
 pub mod Standing
 pub mod States
 pub mod Stops

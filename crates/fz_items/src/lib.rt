@@ -15,6 +15,7 @@ mod goal;
 mod item;
 mod items;
 mod kinds;
+mod laws;
 mod literals;
 mod marks;
 mod numbering;
@@ -34,5 +35,6 @@ mod variables;
 mod want;
 mod whole;
 
+pub use laws::exactness;
 pub use refusal::ModelRefusal;
 pub use whole::read_model;

@@ -1,6 +1,7 @@
 use crate::constraints::holds;
 use crate::domains::is_kept;
 use crate::row::Row;
+use crate::variables::own_count;
 use dp_domain::{Memory, Name};
 use fz_model::{Basic, ConstraintKind, Elements, Expr, Item, Numbers, SetText, VarType};
 use std::alloc::Global;
@@ -131,5 +132,12 @@ fn arguments_by_name(rt: HostRuntime) -> Result<(), Fail> {
         };
         assert_eq!(rt; holds(*kind, &row), *expected);
     }
+    Ok(())
+}
+
+#[test]
+fn aliases_are_no_variables(rt: HostRuntime) -> Result<(), Fail> {
+    let items = declared(rt.alloc())?;
+    assert_eq!(rt; own_count(items.as_slice()), 3);
     Ok(())
 }
