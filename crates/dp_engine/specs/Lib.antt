@@ -1,0 +1,5 @@
+pub mod Placed
+pub mod Turns
+pub mod Runs
+pub mod Engines
+pub mod Searches

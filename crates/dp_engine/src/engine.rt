@@ -1,0 +1,145 @@
+// The engine: turn after turn over a problem and nogoods, and back again.
+
+ghost use Rattle.std.specs.Prelude.{◌≡◌, ℕ, ◌^◌, ◌+◌, ◌-◌, ◌<◌, ◌≤◌, not, [], ◌∷◌, ◌++◌, length, take, IfOk, OnOk, OnErr};
+ghost use Rattle.dp_base.specs.Lists.{Each};
+ghost use Rattle.dp_domain.specs.States.{AreOf, cut_all, is_dead};
+ghost use Rattle.dp_engine.specs.Engines.{Begins, Extends, HaveCount, IsEngine, KeepsParts, KeepsStates, Starts, parts_of, states};
+ghost use Rattle.dp_engine.specs.Turns.{IsTurnAt, applied, atoms_of, turn_at};
+
+use crate::search::turn_at;
+use crate::states::{advance, rewind};
+use crate::{Atom, Memory, Nogood, Problem, State, Steps, Turn};
+use std::alloc::Global;
+use std::marker::Model;
+use std::sync::ledger::Ledger;
+
+/// An engine: a problem and nogoods, whose parts take turns, and the list of states so far, the
+/// present one last.
+#[derive(Drop)]
+pub struct Engine<'p> {
+    problem: &'p Problem,
+    given: &'p [Nogood],
+    added: Vec<Nogood>,
+    past: Vec<State>,
+    present: State,
+}
+
+impl<'p> Model for Engine<'p> {
+    ghost use Rattle.std.specs.Prelude.{◌++◌};
+    ghost use Rattle.dp_engine.specs.Engines.{IsEngine, Propagation};
+
+    ghost Value = { Propagation };
+
+    ghost view = { λ e. record { problem = e.problem.now; nogoods = e.given.now ++ e.added.items; past = e.past.items; present = e.present; owed = 0 } };
+
+    ghost invariant = { λ e. IsEngine (record { problem = e.problem.now; nogoods = e.given.now ++ e.added.items; past = e.past.items; present = e.present; owed = 0 }) };
+}
+
+impl<'p> Engine<'p> {
+    /// An engine at the initial state of the problem, with these nogoods.
+    pub fn new(
+        alloc: Global,
+        problem: &'p Problem,
+        nogoods: &'p [Nogood],
+    ) -> Result<Engine<'p>, Memory>
+        requires few { length nogoods.now < 2 ^ 32 }
+        requires nogoods { Each (AreOf problem.now.initial) nogoods.now }
+        ensures { IfOk result (Starts problem.now nogoods.now) }
+    {
+        Ok(Engine {
+            problem,
+            given: nogoods,
+            added: Vec::new(alloc),
+            past: Vec::new(alloc),
+            present: problem.initial().copy()?,
+        })
+    }
+
+    /// The present state.
+    pub fn state(&self) -> &State
+        ensures state { result.now ≡ self.now.present }
+        ensures engine { IsEngine self.now }
+    {
+        &self.present
+    }
+
+    /// Goes on to the state with these atoms, and answers whether each variable has a value left.
+    /// Want of memory leaves the engine as it was.
+    pub fn assume(&mut self, atoms: &[Atom]) -> Result<bool, Memory>
+        requires { AreOf self.old.problem.initial atoms.now }
+        ensures parts { KeepsParts self.old self.new }
+        ensures present { OnOk result (self.new.present ≡ cut_all self.old.present atoms.now) }
+        ensures states { Extends self.old self.new }
+        ensures alive { IfOk result (λ alive. alive ≡ not (is_dead self.new.present)) }
+        ensures unchanged { OnErr result (KeepsStates self.old self.new) }
+    {
+        advance(&mut self.past, &mut self.present, atoms)?;
+        Ok(!self.present.dead())
+    }
+
+    /// The turn at the present state, which is then applied: Empty exactly where some variable has no
+    /// value left; else what the first part gives that clashes, or from which a new atom follows; else
+    /// Quiet. Want of memory leaves the engine's parts and states as they were.
+    pub fn step<L: Ledger>(&mut self, steps: &mut Steps<L>) -> Result<Turn, Memory>
+        ensures turn { IfOk result (λ turn. turn ≡ turn_at (parts_of self.old) self.old.present) }
+        ensures meaning { IfOk result (IsTurnAt (parts_of self.old) self.old.present) }
+        ensures parts { KeepsParts self.old self.new }
+        ensures present { IfOk result (λ turn. self.new.present ≡ applied self.old.present turn) }
+        ensures states { Extends self.old self.new }
+        ensures unchanged { OnErr result (KeepsStates self.old self.new) }
+    {
+        let turn = turn_at(
+            self.problem,
+            self.given,
+            self.added.as_slice(),
+            &self.present,
+            steps,
+        )?;
+        apply(&mut self.past, &mut self.present, &turn)?;
+        Ok(turn)
+    }
+
+    /// The place of the present state in the list of states.
+    pub fn mark(&self) -> usize
+        ensures { result ≡ length self.now.past }
+    {
+        self.past.len()
+    }
+
+    /// Goes back to the state at the mark. Nogoods that were added since then stay.
+    pub fn undo(&mut self, mark: usize)
+        requires { mark ≤ length self.old.past }
+        ensures parts { KeepsParts self.old self.new }
+        ensures states { states self.new ≡ take (mark + 1) (states self.old) }
+    {
+        rewind(&mut self.past, &mut self.present, mark);
+    }
+
+    /// Adds a nogood at the next place. Want of memory leaves the engine as it was.
+    pub fn add(&mut self, nogood: Nogood) -> Result<(), Memory>
+        requires few { length self.old.nogoods < 2 ^ 32 - 1 }
+        requires variables { AreOf self.old.problem.initial nogood }
+        ensures problem { self.new.problem ≡ self.old.problem }
+        ensures nogoods { OnOk result (self.new.nogoods ≡ self.old.nogoods ++ nogood ∷ []) }
+        ensures states { KeepsStates self.old self.new }
+        ensures unchanged { OnErr result (self.new.nogoods ≡ self.old.nogoods) }
+    {
+        self.added.push(nogood)?;
+        Ok(())
+    }
+}
+
+/// Applies a turn: an atom leads on to the state that it cuts.
+fn apply(past: &mut Vec<State>, present: &mut State, turn: &Turn) -> Result<(), Memory>
+    requires { AreOf present.old (atoms_of turn.now) }
+    ensures counts { (n : ℕ) → HaveCount n (past.old.items ++ present.old ∷ []) → HaveCount n (past.new.items ++ present.new ∷ []) }
+    ensures present { OnOk result (present.new ≡ applied present.old turn.now) }
+    ensures states { Begins (past.old.items ++ present.old ∷ []) (past.new.items ++ present.new ∷ []) }
+    ensures past_stays { OnErr result (past.new.items ≡ past.old.items) }
+    ensures present_stays { OnErr result (present.new ≡ present.old) }
+{
+    match turn {
+        Turn::Atom(_, atom) => advance(past, present, &[*atom]),
+        Turn::Clash(_) | Turn::Quiet | Turn::Empty => Ok(()),
+    }
+}

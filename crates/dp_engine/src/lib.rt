@@ -1,0 +1,20 @@
+// Propagation: the parts of a problem and nogoods take turns, until a clash or until all is quiet.
+#![tactic(auto)]
+
+mod engine;
+mod laws;
+mod part_id;
+mod search;
+mod states;
+mod turn;
+
+pub use dp_domain::{Atom, Memory, State, Steps};
+pub use dp_parts::Problem;
+pub use dp_rule_clause::Nogood;
+pub use engine::Engine;
+pub use laws::{runs, turns};
+pub use part_id::PartId;
+pub use turn::Turn;
+
+#[cfg(test)]
+mod tests;

@@ -1,0 +1,9 @@
+pub mod ReplayLaws
+pub mod NarrowLaws
+pub mod TakenLaws
+pub mod StepLaws
+pub mod GoneLaws
+pub mod KeepLaws
+pub mod TestProblem
+pub mod RunSteps
+pub mod JustifyLaws
