@@ -2,8 +2,9 @@
 use Rattle.dp_command.specs.Words.{Request}
 use Rattle.dp_command.specs.Words as request
 use Rattle.dp_command.specs.declared.words.Command.{Command}
-use Rattle.dp_command.specs.declared.words.Command.TheVariants.{Check}
+use Rattle.dp_command.specs.declared.words.Command.TheVariants.{Check, Show}
 
 -- the command with the names that it holds
 abbrev pub asked : Command → Request
 asked (Check model log) = request.Check model.now log.now
+asked (Show log) = request.Show log.now

@@ -5,6 +5,7 @@ use Rattle.dp_desk.specs.Causes.{Rose}
 use Rattle.dp_desk.specs.Sight.{Sight}
 use Rattle.dp_command.specs.Replies.{Replies}
 use Rattle.dp_command.specs.Texts.{text_of, status_of, read_fault}
+use Rattle.dp_command.specs.Words.{Request, Check, Show, words_of}
 use Rattle.dp_command.specs.declared.reply.Reply.{Reply}
 use Rattle.dp_command.specs.declared.reply.Reply.TheVariants.{NoCommand, ModelRefused}
 
@@ -33,12 +34,24 @@ ChangesInputs was now = now ≡ record was { model = now.model; log = now.log }
 abbrev pub ChangesAnswer : Sight → Sight → Type 0
 ChangesAnswer was now = now ≡ record was { model = now.model; log = now.log; answer = now.answer }
 
--- the inputs that the reply does not need are as they were
+-- the inputs that a refusal of the words or of the model does not need are as they were
 abbrev pub LeavesUnread : Reply → Sight → Sight → Type 0
 LeavesUnread NoCommand was now = (now.model ≡ was.model) × (now.log ≡ was.log)
 LeavesUnread (ModelRefused refusal) was now = now.log ≡ was.log
 LeavesUnread reply was now = Unit {0}
 
--- both inputs were read to their ends
-abbrev pub AreAtEnd : Sight → Type 0
-AreAtEnd now = IsAtEnd now.model × IsAtEnd now.log
+-- a log is shown without a model
+abbrev pub LeavesModel : Request → Sight → Sight → Type 0
+LeavesModel (Check model log) was now = Unit {0}
+LeavesModel (Show log) was now = now.model ≡ was.model
+
+-- each input that is asked for was read to its end
+abbrev pub AreAtEnd : Request → Sight → Type 0
+AreAtEnd (Check model log) now = IsAtEnd now.model × IsAtEnd now.log
+AreAtEnd (Show log) now = IsAtEnd now.log
+
+-- the words are a command, and each input that it asks for was read to its end
+pub record ReadsToEnd (words : List (List ℕ)) (now : Sight) : Type 0 where
+  pub request : Request
+  pub asked : words ≡ words_of request
+  pub ended : AreAtEnd request now

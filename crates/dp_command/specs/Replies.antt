@@ -8,15 +8,17 @@ use Rattle.dp_judge.specs.Logs.{IsGoalAnswer, IsRightAnswer, judged_log}
 use Rattle.dp_judge.specs.declared.answer.LogAnswer.{LogAnswer}
 use Rattle.dp_judge.specs.declared.answer.LogAnswer.TheVariants as answer
 use Rattle.dp_lower.specs.Problem.{problem_of}
+use Rattle.dp_show.specs.Logs.{shown_log}
+use Rattle.dp_show.specs.declared.shown.Shown.{Shown}
 use Rattle.fz_items.specs.Answers.{model_text}
 use Rattle.fz_items.specs.declared.refusal.ModelRefusal.{ModelRefusal}
 use Rattle.fz_model.specs.Models.{Plan}
 use Rattle.dp_command.specs.Inputs.{IsRead}
-use Rattle.dp_command.specs.Words.{Check, words_of, AreNoCommand}
+use Rattle.dp_command.specs.Words.{Check, Show, words_of, AreNoCommand}
 use Rattle.dp_command.specs.declared.reply.Claim.{Claim}
 use Rattle.dp_command.specs.declared.reply.Claim.TheVariants as claim
 use Rattle.dp_command.specs.declared.reply.Reply.{Reply}
-use Rattle.dp_command.specs.declared.reply.Reply.TheVariants.{NoCommand, ModelRefused, Accepted, Unread, Refused}
+use Rattle.dp_command.specs.declared.reply.Reply.TheVariants.{NoCommand, ModelRefused, Accepted, Unread, Refused, Shown as ShownLog}
 
 -- so many bytes are read of a model at most: one more than its text may have
 abbrev pub most_of_model : ℕ
@@ -80,8 +82,19 @@ pub record JudgesLog (names : Option Files) (words : List (List ℕ)) (reply : R
   pub given : IsGiven names words log m
   pub judged : IsJudged names log (problem_of m) reply
 
+-- the words ask to show a log, and this is shown of the bytes that are read of it
+pub record ShowsLog (names : Option Files) (words : List (List ℕ)) (shown : Shown) : Type 0 where
+  pub log : List ℕ
+  pub lines : List ℕ
+  pub asked : words ≡ words_of (Show log)
+  pub read : IsRead most_of_log names log lines
+  pub replied : shown ≡ shown_log lines
+
+-- ---- both
+
 -- the reply that belongs to the words and to what is read of the inputs that they name
 abbrev pub Replies : Option Files → List (List ℕ) → Reply → Type 0
 Replies names words NoCommand = AreNoCommand words
 Replies names words (ModelRefused refusal) = RefusesModel names words refusal
+Replies names words (ShownLog shown) = ShowsLog names words shown
 Replies names words reply = JudgesLog names words reply

@@ -7,13 +7,16 @@ use Rattle.dp_checker.specs.declared.refusal.Why.TheVariants.{AfterConclusion, U
 use Rattle.dp_lines.specs.Spelling.{atom_text, signed}
 use Rattle.dp_lines.specs.declared.refusal.LineRefusal.{LineRefusal}
 use Rattle.dp_lines.specs.declared.refusal.LineRefusal.TheVariants as unread
+use Rattle.dp_show.specs.declared.shown.Refusal.{Refusal}
+use Rattle.dp_show.specs.declared.shown.Refusal.TheVariants as show
+use Rattle.dp_show.specs.declared.shown.Shown.{Shown}
 use Rattle.fz_items.specs.Answers.{place_of}
 use Rattle.fz_items.specs.declared.refusal.ModelRefusal.{ModelRefusal}
 use Rattle.fz_items.specs.declared.refusal.ModelRefusal.TheVariants as model
 use Rattle.dp_command.specs.declared.reply.Claim.{Claim}
 use Rattle.dp_command.specs.declared.reply.Claim.TheVariants.{Unsat, Bound}
 use Rattle.dp_command.specs.declared.reply.Reply.{Reply}
-use Rattle.dp_command.specs.declared.reply.Reply.TheVariants.{NoCommand, ModelRefused, Accepted, Unread, Refused}
+use Rattle.dp_command.specs.declared.reply.Reply.TheVariants.{NoCommand, ModelRefused, Accepted, Unread, Refused, Shown as ShownLog}
 
 -- a line of text, with its end
 abbrev pub line : List ℕ → List ℕ
@@ -87,6 +90,16 @@ told (Some text) = text
 abbrev pub refused_text : StepRefusal → Option (List ℕ) → List ℕ
 refused_text refusal text = line (refused_words (why_words refusal.why) refusal.line) ++ told text
 
+-- the text of the refusal that ends what is shown; nothing where all is shown
+abbrev pub shown_refusal : Option Refusal → List ℕ
+shown_refusal None = []
+shown_refusal (Some (show.Unread refusal)) = unread_text refusal
+shown_refusal (Some (show.Refused refusal text)) = refused_text refusal (Some text)
+
+-- the text of a log that is shown: its steps, then the refusal that ends them
+abbrev pub shown_text : Shown → List ℕ
+shown_text shown = shown.steps ++ shown_refusal shown.refusal
+
 -- what is concluded
 abbrev pub claim_words : Claim → List ℕ
 claim_words Unsat = codes "UNSAT"
@@ -101,6 +114,12 @@ text_of (ModelRefused refusal) = model_refusal refusal
 text_of (Accepted claim) = line (codes "accepted: " ++ claim_words claim)
 text_of (Unread refusal) = unread_text refusal
 text_of (Refused refusal text) = refused_text refusal text
+text_of (ShownLog shown) = shown_text shown
+
+-- the status of a log that is shown: whether all of it is
+abbrev pub shown_status : Option Refusal → ℕ
+shown_status None = 0
+shown_status (Some refusal) = 1
 
 -- the status of a reply
 abbrev pub status_of : Reply → ℕ
@@ -109,6 +128,7 @@ status_of (ModelRefused refusal) = 3
 status_of (Accepted claim) = 0
 status_of (Unread refusal) = 1
 status_of (Refused refusal text) = 1
+status_of (ShownLog shown) = shown_status shown.refusal
 
 -- the text where an input could not be read
 abbrev pub read_fault : List ℕ

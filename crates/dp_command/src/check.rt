@@ -14,7 +14,7 @@ ghost use Rattle.dp_command.specs.Words.{Check, words_of};
 ghost use Rattle.dp_command.specs.declared.reply.Claim.TheVariants.{Bound};
 
 use crate::Trouble;
-use crate::reading::read_whole;
+use crate::reading::{MOST_OF_LOG, MOST_OF_MODEL, read_whole};
 use crate::reply::{Claim, Reply};
 use dp_base::{Memory, Name};
 use dp_desk::{Desk, In};
@@ -26,12 +26,6 @@ use fz_items::{ModelRefusal, read_model};
 use fz_model::Model;
 use std::alloc::Global;
 
-// So many bytes are read of a model at most: one more than its text may have.
-const MOST_OF_MODEL: usize = 67_108_865;
-
-// And so many of a log.
-const MOST_OF_LOG: usize = (1 << 40) + 1;
-
 /// Judges a log of a model, and writes nothing. The log is opened where the model is not refused.
 pub(crate) fn check<D: Desk>(
     alloc: Global,
@@ -41,7 +35,7 @@ pub(crate) fn check<D: Desk>(
 ) -> Result<Reply, Trouble>
     ensures due { IfOk result (λ reply. Replies (D.sight desk.old).names (words_of (Check model.now log.now)) reply) }
     ensures sound { IfOk result (λ reply. IsSound (D.sight desk.old).names (words_of (Check model.now log.now)) reply) }
-    ensures ended { IfOk result (λ reply. status_of reply ≡ 0 → AreAtEnd (D.sight desk.new)) }
+    ensures ended { IfOk result (λ reply. status_of reply ≡ 0 → AreAtEnd (Check model.now log.now) (D.sight desk.new)) }
     ensures unread { IfOk result (λ reply. LeavesUnread reply (D.sight desk.old) (D.sight desk.new)) }
     ensures rest { ChangesInputs (D.sight desk.old) (D.sight desk.new) }
     ensures cause { HasReadCause (D.faults_in desk.old) (D.faults_in desk.new) result }

@@ -6,6 +6,7 @@ mod program;
 mod reading;
 mod reply;
 mod saying;
+mod show;
 mod trouble;
 mod words;
 

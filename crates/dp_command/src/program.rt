@@ -4,9 +4,9 @@ ghost use Rattle.std.specs.Prelude.{◌≡◌, ◌<◌, ◌≤◌, map, IfOk};
 ghost use Rattle.dp_desk.specs.Channel.{Grows};
 ghost use Rattle.dp_desk.specs.Causes.{Rose};
 ghost use Rattle.dp_command.specs.Asked.{asked};
-ghost use Rattle.dp_command.specs.Words.{words_of};
+ghost use Rattle.dp_command.specs.Words.{IsCheck, IsShow, words_of};
 ghost use Rattle.dp_command.specs.Inputs.{HasReadCause};
-ghost use Rattle.dp_command.specs.Due.{Said, SaidPart, ChangesInputs, ChangesAnswer, LeavesUnread, AreAtEnd};
+ghost use Rattle.dp_command.specs.Due.{Said, SaidPart, ChangesInputs, ChangesAnswer, LeavesModel, LeavesUnread, AreAtEnd, ReadsToEnd};
 ghost use Rattle.dp_command.specs.Proved.{IsSound, SaysTruth};
 ghost use Rattle.dp_command.specs.Replies.{Replies};
 ghost use Rattle.dp_command.specs.Texts.{read_fault, status_of};
@@ -14,6 +14,7 @@ ghost use Rattle.dp_command.specs.Texts.{read_fault, status_of};
 use crate::check::check;
 use crate::reply::Reply;
 use crate::saying::say;
+use crate::show::show;
 use crate::{Command, Trouble, read_words};
 use dp_base::Memory;
 use dp_desk::Desk;
@@ -27,18 +28,20 @@ const OUT_OF_MEMORY: u8 = 7;
 
 /// Does what the words ask for over a desk, and answers the status that the program ends with.
 ///
-/// The words are judged first, then the model, then the log. Status 0 comes where the log is accepted, 1 where it is
-/// refused, 2 where the words are no command, 3 where the model is refused, 5 and 6 where an input and where an output
-/// failed, and 7 for want of memory. At each status but 7 a text is written as the answer.
+/// The words are judged first, then the model, then the log; a log is shown without a model. Status 0 comes where the
+/// log is accepted or shown to its end, 1 where it is refused, 2 where the words are no command, 3 where the model is
+/// refused, 5 and 6 where an input and where an output failed, and 7 for want of memory. At each status but 7 a text is
+/// written as the answer.
 pub fn run<D: Desk>(alloc: Global, words: &[&str], desk: &mut D) -> u8
     // The status and the text are those of the reply that belongs to the words and the inputs.
     ensures answered { let texts = map (λ w. w.now) words.now in result ≤ 4 → Said (D.sight desk.old).names texts result (D.sight desk.old).answer (D.sight desk.new).answer }
 
-    // What is written of an accepted log is true of the model, in the meaning of its constraints.
-    ensures sound { let texts = map (λ w. w.now) words.now in result ≡ 0 → SaysTruth (D.sight desk.old).names texts (D.sight desk.old).answer (D.sight desk.new).answer }
-    ensures ended { result ≡ 0 → AreAtEnd (D.sight desk.new) }
+    // What a check writes of an accepted log is true of the model, in the meaning of its constraints.
+    ensures sound { let texts = map (λ w. w.now) words.now in result ≡ 0 → IsCheck texts → SaysTruth (D.sight desk.old).names texts (D.sight desk.old).answer (D.sight desk.new).answer }
+    ensures ended { let texts = map (λ w. w.now) words.now in result ≡ 0 → ReadsToEnd texts (D.sight desk.new) }
     ensures unread_words { result ≡ 2 → (D.sight desk.new).model ≡ (D.sight desk.old).model × ((D.sight desk.new).log ≡ (D.sight desk.old).log) }
     ensures unread_log { result ≡ 3 → (D.sight desk.new).log ≡ (D.sight desk.old).log }
+    ensures unread_model { let texts = map (λ w. w.now) words.now in IsShow texts → (D.sight desk.new).model ≡ (D.sight desk.old).model }
 
     // Faults come only where an input or an output failed, and are never hidden.
     ensures read_fault { result ≡ 5 → Rose (D.faults_in desk.old) (D.faults_in desk.new) × Grows (D.sight desk.old).answer (D.sight desk.new).answer read_fault }
@@ -68,8 +71,9 @@ pub fn run<D: Desk>(alloc: Global, words: &[&str], desk: &mut D) -> u8
 fn reply_to<D: Desk>(alloc: Global, words: &[&str], desk: &mut D) -> Result<Reply, Trouble>
     ensures due { let texts = map (λ w. w.now) words.now in IfOk result (λ reply. Replies (D.sight desk.old).names texts reply) }
     ensures sound { let texts = map (λ w. w.now) words.now in IfOk result (λ reply. IsSound (D.sight desk.old).names texts reply) }
-    ensures ended { IfOk result (λ reply. status_of reply ≡ 0 → AreAtEnd (D.sight desk.new)) }
+    ensures ended { let texts = map (λ w. w.now) words.now in IfOk result (λ reply. status_of reply ≡ 0 → ReadsToEnd texts (D.sight desk.new)) }
     ensures unread { IfOk result (λ reply. LeavesUnread reply (D.sight desk.old) (D.sight desk.new)) }
+    ensures unread_model { let texts = map (λ w. w.now) words.now in IsShow texts → (D.sight desk.new).model ≡ (D.sight desk.old).model }
     ensures rest { ChangesInputs (D.sight desk.old) (D.sight desk.new) }
     ensures cause { HasReadCause (D.faults_in desk.old) (D.faults_in desk.new) result }
     ensures other { D.faults_out desk.new ≡ D.faults_out desk.old }
@@ -84,13 +88,15 @@ fn reply_to<D: Desk>(alloc: Global, words: &[&str], desk: &mut D) -> Result<Repl
 fn obey<D: Desk>(alloc: Global, command: Command<'_>, desk: &mut D) -> Result<Reply, Trouble>
     ensures due { IfOk result (λ reply. Replies (D.sight desk.old).names (words_of (asked command.entry)) reply) }
     ensures sound { IfOk result (λ reply. IsSound (D.sight desk.old).names (words_of (asked command.entry)) reply) }
-    ensures ended { IfOk result (λ reply. status_of reply ≡ 0 → AreAtEnd (D.sight desk.new)) }
+    ensures ended { IfOk result (λ reply. status_of reply ≡ 0 → AreAtEnd (asked command.entry) (D.sight desk.new)) }
     ensures unread { IfOk result (λ reply. LeavesUnread reply (D.sight desk.old) (D.sight desk.new)) }
+    ensures unread_model { LeavesModel (asked command.entry) (D.sight desk.old) (D.sight desk.new) }
     ensures rest { ChangesInputs (D.sight desk.old) (D.sight desk.new) }
     ensures cause { HasReadCause (D.faults_in desk.old) (D.faults_in desk.new) result }
     ensures other { D.faults_out desk.new ≡ D.faults_out desk.old }
 {
     match command {
         Command::Check { model, log } => check(alloc, model, log, desk),
+        Command::Show { log } => show(alloc, log, desk),
     }
 }

@@ -13,6 +13,12 @@ use std::alloc::Global;
 // What one read asks for at most.
 const PIECE: usize = 65536;
 
+/// So many bytes are read of a model at most: one more than its text may have.
+pub(crate) const MOST_OF_MODEL: usize = 67_108_865;
+
+/// And so many of a log.
+pub(crate) const MOST_OF_LOG: usize = (1 << 40) + 1;
+
 /// Opens an input and reads it to its end, or up to a number of bytes.
 pub(crate) fn read_whole<D: Desk>(
     alloc: Global,

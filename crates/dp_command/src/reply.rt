@@ -1,6 +1,6 @@
 // Replies, with their texts and statuses.
 
-ghost use Rattle.std.specs.Prelude.{◌≡◌, ◌++◌, ◌∷◌, [], IfOk, OnOk, codes};
+ghost use Rattle.std.specs.Prelude.{◌≡◌, ◌++◌, ◌∷◌, [], IfOk, OnOk, Some, codes};
 ghost use Rattle.std.specs.Fmt.{decimal};
 ghost use Rattle.fz_items.specs.Answers.{place_of};
 ghost use Rattle.dp_command.specs.Texts as texts;
@@ -10,6 +10,7 @@ use dp_base::{Memory, Name, Text};
 use dp_checker::{StepRefusal, Why};
 use dp_domain::Op;
 use dp_lines::{LineRefusal, push_atom_text};
+use dp_show::{Refusal, Shown};
 use fz_items::ModelRefusal;
 use std::alloc::Global;
 
@@ -35,6 +36,8 @@ pub(crate) enum Reply {
     Unread(LineRefusal),
     /// A test refuses a line of the log, which is spelled so; or the log has no conclusion.
     Refused(StepRefusal, Option<Text>),
+    /// This is shown of the log.
+    Shown(Shown),
 }
 
 impl Reply {
@@ -47,6 +50,7 @@ impl Reply {
             Reply::ModelRefused(_) => 3,
             Reply::Accepted(_) => 0,
             Reply::Unread(_) | Reply::Refused(..) => 1,
+            Reply::Shown(shown) => shown_status(shown),
         }
     }
 
@@ -60,6 +64,7 @@ impl Reply {
             Reply::Accepted(claim) => accepted(alloc, claim),
             Reply::Unread(refusal) => unread(alloc, *refusal),
             Reply::Refused(refusal, text) => refused(alloc, *refusal, text),
+            Reply::Shown(shown) => shown_text(alloc, shown),
         }
     }
 }
@@ -167,14 +172,22 @@ fn refused_line(alloc: Global, name: &str, line: u64) -> Result<Vec<u8>, Memory>
     Ok(text.into_bytes())
 }
 
-// The text where a test refuses a line.
+// The text where a test refuses a line, or where there is no conclusion.
 fn refused(alloc: Global, refusal: StepRefusal, told: &Option<Text>) -> Result<Vec<u8>, Memory>
     ensures { IfOk result (λ text. text.items ≡ texts.refused_text refusal told.now) }
 {
-    let mut text = refusal_line(alloc, refusal)?;
-    if let Some(line) = told {
-        text.extend_from_slice(line.bytes())?;
+    match told {
+        Some(line) => refused_with(alloc, refusal, line),
+        None => refusal_line(alloc, refusal),
     }
+}
+
+// The text where a test refuses a line, with the line behind it.
+fn refused_with(alloc: Global, refusal: StepRefusal, line: &Text) -> Result<Vec<u8>, Memory>
+    ensures { IfOk result (λ text. text.items ≡ texts.refused_text refusal (Some line.now)) }
+{
+    let mut text = refusal_line(alloc, refusal)?;
+    text.extend_from_slice(line.bytes())?;
     Ok(text)
 }
 
@@ -204,5 +217,37 @@ fn refusal_line(alloc: Global, refusal: StepRefusal) -> Result<Vec<u8>, Memory>
         Why::WrongBound => refused_line(alloc, "WrongBound", line),
         Why::NotConcluded => refused_line(alloc, "NotConcluded", line),
         Why::NoConclusion => refused_line(alloc, "NoConclusion", line),
+    }
+}
+
+// Whether all of a log is shown.
+fn shown_status(shown: &Shown) -> u8
+    ensures { result ≡ texts.shown_status shown.now.refusal }
+{
+    match shown.refusal {
+        None => 0,
+        Some(_) => 1,
+    }
+}
+
+// The steps that are shown, and the refusal that ends them.
+fn shown_text(alloc: Global, shown: &Shown) -> Result<Vec<u8>, Memory>
+    ensures { IfOk result (λ text. text.items ≡ texts.shown_text shown.now) }
+{
+    let mut text = shown.steps.bytes().to_vec(alloc)?;
+    if let Some(refusal) = &shown.refusal {
+        let end = shown_refusal(alloc, refusal)?;
+        text.extend_from_slice(end.as_slice())?;
+    }
+    Ok(text)
+}
+
+// The text of the refusal that ends what is shown.
+fn shown_refusal(alloc: Global, refusal: &Refusal) -> Result<Vec<u8>, Memory>
+    ensures { IfOk result (λ text. text.items ≡ texts.shown_refusal (Some refusal.now)) }
+{
+    match refusal {
+        Refusal::Unread(refusal) => unread(alloc, *refusal),
+        Refusal::Refused(refusal, line) => refused_with(alloc, *refusal, line),
     }
 }

@@ -9,7 +9,7 @@ const MODEL: &str =
     "var 0..3: x;\nvar 0..3: y;\nconstraint int_lin_le([1,1],[x,y],2);\nconstraint int_lin_le([-1,-1],[x,y],-3);\nsolve satisfy;\n";
 
 // A log that proves it, up to its line 14.
-const STEPS: &str =
+pub(crate) const STEPS: &str =
     "a 1 [x >= 3]\ni 1 0 -1 c:1 l:linear\na 2 [y >= 3]\ni 2 0 -2 c:1 l:linear\na 3 [x >= 1]\ni 3 -2 0 3 c:2 l:linear\na 4 [y >= 2]\ni 4 3 0 -4 c:1 l:linear\na 5 [x >= 2]\ni 5 -4 0 5 c:2 l:linear\na 6 [y >= 1]\ni 6 5 0 -6 c:1 l:linear\ni 7 -1 -6 0 c:2 l:linear\n";
 
 const ACCEPTED: &str = "accepted: UNSAT\n";
@@ -33,6 +33,21 @@ fn desk_of(
     Ok(MemoryDesk::new(alloc, files, piece.max(1), failing.to_vec(alloc)?))
 }
 
+// The status and the answer of a run over a desk with a model and a log.
+pub(crate) fn answered(
+    alloc: Global,
+    words: &[&str],
+    model: &str,
+    log: &[u8],
+    piece: usize,
+    failing: &[u64],
+) -> Result<(u8, Vec<u8>), AllocError> {
+    let mut desk = desk_of(alloc, model, log, piece, failing)?;
+    let status = run(alloc, words, &mut desk);
+    let answer = desk.written(Out::Answer).unwrap_or(b"not told");
+    Ok((status, answer.to_vec(alloc)?))
+}
+
 // Checks the log of these names, and gives back the status and the answer.
 fn checked(
     alloc: Global,
@@ -41,10 +56,7 @@ fn checked(
     piece: usize,
     failing: &[u64],
 ) -> Result<(u8, Vec<u8>), AllocError> {
-    let mut desk = desk_of(alloc, model, log, piece, failing)?;
-    let status = run(alloc, &["check", "m", "l"], &mut desk);
-    let answer = desk.written(Out::Answer).unwrap_or(b"not told");
-    Ok((status, answer.to_vec(alloc)?))
+    answered(alloc, &["check", "m", "l"], model, log, piece, failing)
 }
 
 #[test]
@@ -201,6 +213,21 @@ fn the_first_refusal_is_told(rt: HostRuntime) -> Result<(), Fail> {
 }
 
 #[test]
+fn words_are_commands(rt: HostRuntime) -> Result<(), Fail> {
+    let check = Command::Check {
+        model: "show",
+        log: "check",
+    };
+    assert_eq!(rt; read_words(&["check", "show", "check"]), Some(check));
+    assert_eq!(rt;
+        read_words(&["show", "show"]),
+        Some(Command::Show { log: "show" })
+    );
+    assert_eq!(rt; read_words(&["show", "m", "l"]), None);
+    Ok(())
+}
+
+#[test]
 fn words_are_judged_first(rt: HostRuntime) -> Result<(), Fail> {
     let alloc = rt.alloc();
     let none: [&str; 0] = [];
@@ -211,6 +238,10 @@ fn words_are_judged_first(rt: HostRuntime) -> Result<(), Fail> {
         &["check", "m", "l", "x"],
         &["solve", "m", "l"],
         &["Check", "m", "l"],
+        &["show"],
+        &["show", "l", "x"],
+        &["Show", "l"],
+        &["l", "show"],
     ];
     for words in rows {
         let mut desk = desk_of(alloc, MODEL, b"", 1_000_000, &[2])?;
@@ -321,6 +352,31 @@ fn logs_of_each_kind_are_accepted(rt: HostRuntime) -> Result<(), Fail> {
             "a 1 [x >= 1]\ni 1 0 1 c:1 l:all_different\na 2 [x >= 2]\ni 2 1 0 2 c:1 l:all_different\ni 3 2 0 c:1 l:all_different\nn 4 0 1 2 3\nc UNSAT\n",
         ),
         (
+            "one number twice",
+            "constraint all_different_int([3,3]);\nsolve satisfy;\n",
+            "i 1 0 c:1 l:all_different\nn 2 0 1\nc UNSAT\n",
+        ),
+        (
+            "one number twice, by the other name",
+            "constraint fzn_all_different_int([3,3]);\nsolve satisfy;\n",
+            "i 1 0 c:1 l:all_different\nn 2 0 1\nc UNSAT\n",
+        ),
+        (
+            "an index above the array",
+            "constraint array_int_element(3,[5,5],5);\nsolve satisfy;\n",
+            "i 1 0 c:1 l:element\nn 2 0 1\nc UNSAT\n",
+        ),
+        (
+            "an index below the array",
+            "var bool: b;\nconstraint array_var_bool_element(0,[b],true);\nsolve satisfy;\n",
+            "i 1 0 c:1 l:element\nn 2 0 1\nc UNSAT\n",
+        ),
+        (
+            "an entry that fails",
+            "var 1..2: i;\nconstraint array_bool_element(i,[false,true],true);\nconstraint int_le(i,1);\nsolve satisfy;\n",
+            "a 1 [i >= 2]\ni 1 0 1 c:1 l:element\ni 2 1 0 c:2 l:linear\nn 3 0 1 2\nc UNSAT\n",
+        ),
+        (
             "a task that asks too much",
             "var 0..3: s;\nconstraint cumulative([s],[2],[2],1);\nsolve satisfy;\n",
             "a 1 [s >= 2]\ni 1 0 1 c:1 l:time_table\ni 2 1 0 c:1 l:time_table\nn 3 0 1 2\nc UNSAT\n",
@@ -329,6 +385,21 @@ fn logs_of_each_kind_are_accepted(rt: HostRuntime) -> Result<(), Fail> {
             "large numbers",
             "constraint int_lin_le([1000000000],[1000000000000000000],0);\nsolve satisfy;\n",
             "i 1 0 c:1 l:linear\nn 2 0 1\nc UNSAT\n",
+        ),
+        (
+            "a wide variable",
+            "var -1000000000..1000000000: x;\nconstraint int_le(x,5);\nconstraint int_le(6,x);\nsolve satisfy;\n",
+            "a 1 [x >= 6]\ni 1 0 -1 c:1 l:linear\ni 2 -1 0 c:2 l:linear\nn 3 0 1 2\nc UNSAT\n",
+        ),
+        (
+            "a reified set of a wide variable",
+            "var -1000000000..1000000000: x;\nvar bool: r;\nconstraint set_in_reif(x,0..1000,r);\nconstraint int_eq(x,2000);\nconstraint bool_clause([r],[]);\nsolve satisfy;\n",
+            "a 1 [r >= 1]\ni 1 0 1 c:3 l:clause\na 2 [x >= 2000]\ni 2 0 2 c:2 l:linear\ni 3 1 2 0 c:1 l:domain\nn 4 0 1 2 3\nc UNSAT\n",
+        ),
+        (
+            "a wide variable that is not in the set",
+            "var -1000000000..1000000000: x;\nvar bool: r;\nconstraint set_in_reif(x,0..1000,r);\nconstraint int_eq(x,1000);\nconstraint bool_clause([],[r]);\nsolve satisfy;\n",
+            "a 1 [r >= 1]\ni 1 0 -1 c:3 l:clause\na 2 [x == 1000]\na 3 [x >= 1000]\na 4 [x <= 1000]\ni 2 0 3 c:2 l:linear\ni 3 0 4 c:2 l:linear\ni 4 -1 3 4 0 c:1 l:domain\nn 5 0 1 2 3 4\nc UNSAT\n",
         ),
     ];
     for (name, model, log) in rows {

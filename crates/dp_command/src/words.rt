@@ -14,6 +14,11 @@ pub enum Command<'a> {
         /// The name of the log.
         log: &'a str,
     },
+    /// Shows a log's steps with the names of their atoms.
+    Show {
+        /// The name of the log.
+        log: &'a str,
+    },
 }
 
 /// Reads the words of a command line, which stand behind the program's name. None exactly where they are no
@@ -23,6 +28,7 @@ pub fn read_words<'a>(words: &[&'a str]) -> Option<Command<'a>>
 {
     match words {
         ["check", model, log] => Some(Command::Check { model, log }),
+        ["show", log] => Some(Command::Show { log }),
         _ => None,
     }
 }

@@ -1,10 +1,10 @@
 -- Sets that are cut item by item are the initial domains.
 use Rattle.std.proofs.Common.{◌≡◌, ℕ, suc, zero, ◌+◌, ◌<◌, ◌≤◌, Bool, true, false, List, [], ◌∷◌, ◌++◌, length, filter, get_or, take, drop, Option, Some, None, Result, Ok, Err, ℤ, refl, sym, ◌∙◌, ap, subst, inl, inr, arith}
-use Rattle.std.specs.Prelude.{not, ◌&&◌, ◌||◌, ◌⊎◌, ◌==◌, is_none, MatchOption, OnOk, int_le, slice_get, slice_set}
+use Rattle.std.specs.Prelude.{if◌then◌else◌, not, ◌&&◌, ◌||◌, ◌⊎◌, ◌==◌, is_none, MatchOption, OnOk, int_le, slice_get, slice_set}
 use Rattle.std.specs.List.{list_all, list_any}
 use Rattle.std.specs.Option.{option_map_or}
 use Rattle.std.specs.Ordering.{int_eq}
-use Rattle.std.proofs.lemmas.Bool.{cases_eq, eq-eqb, ne_eqb}
+use Rattle.std.proofs.lemmas.Bool.{cases_eq, eq-eqb, false≢true, ne_eqb}
 use Rattle.std.proofs.lemmas.Bool.Decides.{Decides-int_eq, same_from_decides}
 use Rattle.std.proofs.lemmas.List.{append-nil, append_assoc, drop_all, get_or-set_other, get_or-set_same, length-set, take_all, take_more}
 use Rattle.std.proofs.lemmas.List.Folds.{list_any-append}
@@ -338,3 +338,17 @@ pub any_default : (xs : List Basic) (i : ℕ) (d e : Basic) → i < length xs �
 any_default [] i d e h = absurd (omega arith)
 any_default (x ∷ xs) zero d e h = refl
 any_default (x ∷ xs) (suc i) d e h = any_default xs i d e (omega arith)
+
+own_test : (b : Bool) → not b ≡ false → b ≡ true
+own_test true e = refl
+own_test false e = absurd (false≢true (sym e))
+
+-- the set of one more variable of its own
+pub own_more : (items : List Item) (i : Item) (name : List ℕ) (kind : VarType) (output : Bool) (value : Option Basic) (var : ℕ) (alias : Bool) (old now : Domains) (d : List ℤ) → i ≡ item.Var name kind output value var
+    → alias ≡ not (is_none (named_variable items value)) → alias ≡ false → d ≡ filter (λ v. is_of_type kind v && option_map_or (λ b. fits v (term_of items b)) value true) small_numbers → now ≡ old ++ d ∷ []
+    → now ≡ old ++ own_sets items (i ∷ [])
+own_more items i name kind output value var alias old now d e f g h k =
+    let own = filter (λ v. is_of_type kind v && option_map_or (λ b. fits v (term_of items b)) value true) small_numbers in
+    k ∙ ap (λ (xs : List ℤ). old ++ xs ∷ []) h
+    ∙ ap (λ (c : Bool). old ++ (if c then own ∷ [] else [])) (sym (own_test (is_none (named_variable items value)) (sym f ∙ g)))
+    ∙ ap (λ (j : Item). old ++ own_sets items (j ∷ [])) (sym e)

@@ -140,29 +140,28 @@ fn cut_declared(
     ensures { OnOk result (set.new ≡ filter (λ v. is_of_type kind.now v && option_map_or (λ b. fits v (term_of items.now b)) value true) set.old) }
 {
     cut(alloc, set, kind)?;
-    cut_defined(items, set, value);
-    Ok(())
+    cut_defined(items, set, value)
 }
 
 /// Keeps the numbers that fit the definition.
-fn cut_defined(items: &[Item], set: &mut Dom, value: Option<Basic>)
+fn cut_defined(items: &[Item], set: &mut Dom, value: Option<Basic>) -> Result<(), Memory>
     requires { MatchOption value (Unit {0}) (λ b. IsSmallOrVar (term_of items.now b)) }
-    ensures { set.new ≡ filter (λ v. option_map_or (λ b. fits v (term_of items.now b)) value true) set.old }
+    ensures { OnOk result (set.new ≡ filter (λ v. option_map_or (λ b. fits v (term_of items.now b)) value true) set.old) }
 {
     match value {
         Some(basic) => cut_fitting(set, term_of(items, basic)),
-        None => (),
+        None => Ok(()),
     }
 }
 
 /// Keeps the numbers that fit the term.
-fn cut_fitting(set: &mut Dom, term: Term)
+fn cut_fitting(set: &mut Dom, term: Term) -> Result<(), Memory>
     requires { IsSmallOrVar term }
-    ensures { set.new ≡ filter (λ v. fits v term) set.old }
+    ensures { OnOk result (set.new ≡ filter (λ v. fits v term) set.old) }
 {
     match term {
         Term::Const(number) => cut_range(set, number, number),
-        Term::Var(_) => (),
+        Term::Var(_) => Ok(()),
     }
 }
 

@@ -71,22 +71,23 @@ pub fn cut(alloc: Global, set: &mut Dom, kind: &VarType) -> Result<(), Memory>
     ensures { OnOk result (set.new ≡ filter (is_of_type kind.now) set.old) }
 {
     match kind {
-        VarType::Bool => cut_range(set, 0, 1),
+        VarType::Bool => cut_range(set, 0, 1)?,
         VarType::Int => (),
-        VarType::Range(first, last) => cut_range(set, *first, *last),
+        VarType::Range(first, last) => cut_range(set, *first, *last)?,
         VarType::List(numbers) => *set = listed(alloc, set, numbers.as_slice())?,
     }
     Ok(())
 }
 
 /// Keeps the numbers from the first to the last.
-pub fn cut_range(set: &mut Dom, first: i64, last: i64)
+pub fn cut_range(set: &mut Dom, first: i64, last: i64) -> Result<(), Memory>
     requires first { IsSmall first }
     requires last { IsSmall last }
-    ensures { set.new ≡ filter (λ v. int_le first v && int_le v last) set.old }
+    ensures { OnOk result (set.new ≡ filter (λ v. int_le first v && int_le v last) set.old) }
 {
-    set.exclude(bound(Op::Ge, first));
-    set.exclude(bound(Op::Le, last));
+    set.exclude(bound(Op::Ge, first))?;
+    set.exclude(bound(Op::Le, last))?;
+    Ok(())
 }
 
 /// The atom by which numbers are cut.
