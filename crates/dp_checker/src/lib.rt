@@ -15,4 +15,5 @@ mod tests;
 
 pub use checker::Checker;
 pub use fault::CheckFault;
+pub use literals::{first_undefined, first_undefined_of, literal_atom, literal_atoms};
 pub use refusal::{StepRefusal, Why};
