@@ -1,0 +1,3 @@
+pub mod Met
+pub mod Processed
+pub mod Answers

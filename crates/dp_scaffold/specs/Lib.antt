@@ -1,0 +1,3 @@
+pub mod Scaffolds
+pub mod Gathering
+pub mod Texts
