@@ -1,12 +1,12 @@
 -- Numbered items, and what stands under a number.
-use Rattle.std.proofs.Common.{◌≡◌, ℕ, zero, suc, ◌+◌, ◌<◌, ◌≤◌, Bool, true, false, cond, nat_eq, Option, Some, None, List, [], ◌∷◌, ◌++◌, length, slice_get, sym, ap, ◌∙◌, refl, append_assoc, arith}
+use Rattle.std.proofs.Common.{◌≡◌, ℕ, zero, suc, ◌+◌, ◌<◌, ◌≤◌, cond, nat_eq, Option, Some, None, List, [], ◌∷◌, ◌++◌, length, slice_get, sym, ap, ◌∙◌, refl, append_assoc, arith}
 use Rattle.std.proofs.lemmas.Bool.{eq-eqb, ne_eqb}
 use Rattle.std.proofs.lemmas.List.{append-nil}
 use Rattle.dp_domain.specs.Atoms.{Atomic}
 use Rattle.dp_checker.specs.Known.{found}
 use Rattle.dp_writer.specs.Steps.{Step, count_of, counted}
 use Rattle.dp_writer.specs.Steps.Step.{Inference, Nogood, Conclusion}
-use Rattle.dp_replay.specs.Judging.{denied, denials_from, denials_of, numbered}
+use Rattle.dp_replay.specs.Judging.{denied, denials_from, numbered}
 
 -- ---- items with numbers from n + 1 on
 

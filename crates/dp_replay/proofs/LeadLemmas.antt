@@ -1,5 +1,5 @@
 -- Lines that lead from what is known to what is known behind them, whatever their numbers.
-use Rattle.std.proofs.Common.{◌≡◌, ℕ, Option, Some, None, Result, Ok, List, [], ◌∷◌, ◌++◌, map, sym, ap, ◌∙◌, subst, refl}
+use Rattle.std.proofs.Common.{◌≡◌, ℕ, None, Ok, List, [], ◌∷◌, ◌++◌, map, sym, ap, ◌∙◌, subst}
 use Rattle.dp_lines.specs.declared.line.Line.{Line}
 use Rattle.dp_parts.specs.Posed.{Posed}
 use Rattle.dp_checker.specs.Judged.{after, first_refusal, judge_all, outcome}

@@ -1,15 +1,13 @@
 -- The lines of a whole log.
-use Rattle.std.proofs.Common.{◌≡◌, ℕ, ◌+◌, not, Option, Some, None, Ok, List, [], ◌∷◌, ◌++◌, map, sym, ap, ◌∙◌, subst, refl, append_assoc, arith}
+use Rattle.std.proofs.Common.{◌≡◌, not, Option, Some, None, List, [], ◌∷◌, ◌++◌, map, sym, ap, ◌∙◌, subst, refl, arith}
 use Rattle.std.proofs.lemmas.List.{append-nil}
 use Rattle.std.proofs.lemmas.Grind.{flat_map-append}
 use Rattle.std.specs.List.{flat_map}
 use Rattle.dp_base.specs.Lists.{Each}
-use Rattle.dp_base.specs.Names.{named}
 use Rattle.dp_base.proofs.Lists.{Each-append, Each-append_parts, Each-filter}
 use Rattle.dp_domain.specs.declared.verdict.Verdict.{Verdict}
 use Rattle.dp_lines.specs.declared.line.Line.{Line}
 use Rattle.dp_parts.specs.Posed.{Posed}
-use Rattle.dp_checker.specs.Judged.{judge_all}
 use Rattle.dp_checker.specs.Known.{Known, nothing}
 use Rattle.dp_writer.specs.Atoms.{Named, firsts, named_defined, same}
 use Rattle.dp_writer.specs.Steps.{Step, atoms_of, lines, lines_after, lines_of, table, uses}

@@ -1,5 +1,5 @@
 -- The lines of one step, behind those of earlier steps.
-use Rattle.std.proofs.Common.{◌≡◌, ℕ, zero, suc, ◌+◌, ◌≤◌, Bool, true, false, ◌&&◌, Option, Some, None, is_none, is_some, List, [], ◌∷◌, ◌++◌, length, map, ℤ, pos, negsuc, sym, ap, ◌∙◌, subst, refl, append_assoc, inl, arith, if◌then◌else◌}
+use Rattle.std.proofs.Common.{◌≡◌, ℕ, zero, suc, ◌+◌, true, ◌&&◌, Option, Some, None, is_none, is_some, List, [], ◌∷◌, ◌++◌, length, map, ℤ, pos, negsuc, sym, ap, ◌∙◌, subst, refl, append_assoc, inl, arith, if◌then◌else◌}
 use Rattle.std.proofs.lemmas.List.{append-nil, length-append, length-map, map-append}
 use Rattle.std.specs.List.{flat_map, list_all}
 use Rattle.std.specs.Option.{option_map, option_to_list}
@@ -12,17 +12,16 @@ use Rattle.dp_domain.specs.States.{cut_all}
 use Rattle.dp_domain.specs.declared.verdict.Verdict.{Verdict}
 use Rattle.dp_domain.specs.declared.verdict.Verdict.TheVariants.{Unsat, Bound}
 use Rattle.dp_domain.proofs.ExplanationLaws.{Among-flat_map}
-use Rattle.dp_lines.specs.declared.line.Line.{Line}
 use Rattle.dp_parts.specs.declared.goal.Goal.{Goal}
 use Rattle.dp_parts.specs.declared.goal.Goal.TheVariants.{Satisfy, Minimize, Maximize}
 use Rattle.dp_parts.specs.Posed.{Posed}
 use Rattle.dp_parts.specs.Rules.{concludes, implies, proves}
-use Rattle.dp_checker.specs.Judged.{after, against, first_refusal, grounds, has_goal, inference_denial, is_bound, is_constraint, is_fitting, naming, or_else, unless, with_atom, with_last}
+use Rattle.dp_checker.specs.Judged.{grounds, has_goal, inference_denial, is_bound, naming, or_else, unless, with_atom, with_last}
 use Rattle.dp_checker.specs.declared.refusal.Why.TheVariants.{AtomTwice, UnknownVar, UnknownAtom, StepTwice, UnknownStep, UnknownConstraint, WrongLabel, NotImplied, NoClash, NoGoal, WrongBound, NotConcluded}
-use Rattle.dp_checker.specs.Known.{Known, cons_some, denials, first_undefined, first_unknown, found, literal_atom, literal_atoms}
-use Rattle.dp_writer.specs.Atoms.{Named, defined, same, literal_in}
-use Rattle.dp_writer.specs.Reading.{atom_at, atom_of}
-use Rattle.dp_writer.specs.Steps.{Step, atoms_in, atoms_of, count_of, definition, definitions, line_of, lines_of, literals_in, new_atoms, table}
+use Rattle.dp_checker.specs.Known.{Known, cons_some, denials, first_undefined, found, literal_atom, literal_atoms}
+use Rattle.dp_writer.specs.Atoms.{Named, literal_in}
+use Rattle.dp_writer.specs.Reading.{atom_of}
+use Rattle.dp_writer.specs.Steps.{Step, atoms_in, atoms_of, count_of, definitions, line_of, lines_of, literals_in, new_atoms, table}
 use Rattle.dp_writer.specs.Steps.Step.{Inference, Nogood, Conclusion}
 use Rattle.dp_writer.proofs.FirstLemmas.{table_new}
 use Rattle.dp_writer.proofs.ReadingLemmas.{read_literal, used_in_table}

@@ -1,5 +1,5 @@
 -- The bytes of lines are read as the lines.
-use Rattle.std.proofs.Common.{◌≡◌, ℕ, ◌+◌, ◌≤◌, ◌^◌, Option, Some, None, Ok, List, [], ◌∷◌, ◌++◌, length, length-append, map, sym, ap, ◌∙◌, subst, refl, arith}
+use Rattle.std.proofs.Common.{◌≡◌, ℕ, ◌+◌, ◌≤◌, ◌^◌, Option, None, Ok, List, [], ◌∷◌, ◌++◌, length, length-append, map, ap, ◌∙◌, refl, arith}
 use Rattle.std.specs.List.{flat_map}
 use Rattle.dp_base.specs.Lists.{Each}
 use Rattle.dp_lines.specs.Allowed.{IsAllowed}
@@ -10,9 +10,8 @@ use Rattle.dp_lines.specs.declared.line.Line.{Line}
 use Rattle.dp_lines.proofs.RoundTrip.{log_again}
 use Rattle.dp_parts.specs.Posed.{Posed}
 use Rattle.dp_checker.specs.Judged.{judge_all, verdict_of as verdict_behind}
-use Rattle.dp_checker.specs.Known.{Known, nothing}
+use Rattle.dp_checker.specs.Known.{nothing}
 use Rattle.dp_judge.specs.Logs.{answer_after, conclude, judged_log, limits}
-use Rattle.dp_judge.specs.declared.answer.LogAnswer.{LogAnswer}
 use Rattle.dp_judge.specs.declared.answer.LogAnswer.TheVariants.{Accepted}
 use Rattle.dp_domain.specs.declared.verdict.Verdict.{Verdict}
 use Rattle.dp_writer.specs.Atoms.{Named}
