@@ -27,9 +27,9 @@ IsAccepted p ls verdict =
     (given : List (ℕ × Line)) → map (λ line. line.1) given ≡ ls → (known : Known) × (judge_all p (Ok nothing) given ≡ Ok known) × (known.conclusion ≡ Some verdict)
 
 -- the lines have no byte too many for a log, alone and together
-pub record AreShort (ls : List Line) (text : List ℕ) : Type 0 where
+pub record AreShort (ls : List Line) (bytes : List ℕ) : Type 0 where
   pub lines : Each (λ line. length (fields_text line) ≤ 2 ^ 24) ls
-  pub text : length text ≤ 2 ^ 40
+  pub text : length bytes ≤ 2 ^ 40
 
 -- where each step passes, the lines of the log are accepted with its conclusion
 abbrev pub Replays : Type 0

@@ -1,0 +1,5 @@
+pub mod EntryLemmas
+pub mod LeadLemmas
+pub mod StepLemmas
+pub mod ReplayLemmas
+pub mod TextLemmas
