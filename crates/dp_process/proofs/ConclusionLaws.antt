@@ -1,5 +1,5 @@
 -- What a log concludes: a step that denies what is left.
-use Rattle.std.proofs.Common.{◌≡◌, ℕ, ◌+◌, ◌-◌, Bool, true, false, cond, ◌||◌, Option, Some, None, List, [], ◌∷◌, ◌++◌, length, refl, ◌∙◌, ap, arith, length-append}
+use Rattle.std.proofs.Common.{◌≡◌, ℕ, ◌+◌, Bool, true, false, cond, ◌||◌, Option, Some, None, List, [], ◌∷◌, ◌++◌, length, refl, ◌∙◌, ap, arith, length-append}
 use Rattle.std.specs.Prelude.{nat_eq}
 use Rattle.std.specs.List.{list_any}
 use Rattle.std.proofs.lemmas.Bool.{and_from, or_left, or_right}
@@ -50,6 +50,8 @@ pub last-concludes : (p : Csp) (nogoods earlier : List (List Atomic)) (claim : V
     → nogoods ≡ earlier ++ nogood_of claim ∷ [] → IsOfGoal p claim → found k entries ≡ Some (nogood_at nogoods (last_of nogoods)) → Concludes (posed p) entries (bound_of p claim)
 last-concludes p nogoods earlier Unsat k entries e goal f =
     concludes_by p.initial k entries [] (f ∙ ap (λ (d : List Atomic). Some d) (last_nogood nogoods earlier Unsat e)) refl
-last-concludes p nogoods earlier (Bound a) k entries e goal f =
-    (goal.0, concludes_by (cut_all p.initial (negated a ∷ [])) k entries (negated a ∷ []) (f ∙ ap (λ (d : List Atomic). Some d) (last_nogood nogoods earlier (Bound a) e))
-    (and_from (entails (cut p.initial (negated a)) (negated a)) true (entails-cut p.initial (negated a)) refl))
+last-concludes p nogoods earlier (Bound a) k entries e goal f = (
+  goal.0,
+  concludes_by (cut_all p.initial (negated a ∷ [])) k entries (negated a ∷ []) (f ∙ ap (λ (d : List Atomic). Some d) (last_nogood nogoods earlier (Bound a) e))
+      (and_from (entails (cut p.initial (negated a)) (negated a)) true (entails-cut p.initial (negated a)) refl),
+)

@@ -1,5 +1,5 @@
 -- The hints of a nogood lead to what its kept turns deny, in their order.
-use Rattle.std.proofs.Common.{◌≡◌, ℕ, zero, suc, ◌+◌, ◌-◌, ◌<◌, ◌≤◌, Bool, true, false, cond, Option, Some, None, List, [], ◌∷◌, ◌++◌, length, map, append_assoc, append-nil, refl, sym, ◌∙◌, ap, subst, arith}
+use Rattle.std.proofs.Common.{◌≡◌, ℕ, zero, suc, ◌+◌, ◌-◌, ◌<◌, Bool, true, false, cond, Option, Some, List, [], ◌∷◌, ◌++◌, length, map, append_assoc, append-nil, refl, sym, ◌∙◌, ap, subst, arith}
 use Rattle.dp_base.specs.Lists.{Each}
 use Rattle.dp_base.proofs.Lists.{Each-append, Each-weaker}
 use Rattle.dp_domain.specs.Atoms.{Atomic}
@@ -54,12 +54,13 @@ module _ (p : Csp) (number : ℕ → ℕ) (nogoods : List (List Atomic)) where
       → AreFound (denials_of (earlier ++ (written_of p source premises consequent ++ inferences p ks))) (hint_of number n source ∷ hints_of number (after_turn n source) ks)
       (denied_by nogoods source premises consequent ∷ map (denial_of nogoods) ks)
   hint_found earlier n (Model k i) premises consequent ks count one all more =
-      let s = inference p premises consequent (k + 1) (label_at p k i) in
-      (found-step (n + 1) 0 earlier s (inferences p ks) refl (omega arith) ∙ ap (λ (d : List Atomic). Some d) (denied-inference p premises consequent (k + 1) (label_at p k i)),
-       subst (λ (steps : List Step). AreFound (denials_of steps) (hints_of number (n + 1) ks) (map (denial_of nogoods) ks)) (append_assoc earlier (s ∷ []) (inferences p ks))
-       (more (earlier ++ s ∷ []) (n + 1) (count-append earlier (s ∷ []) ∙ ap (λ (m : ℕ). m + 1) count)
-       (Each-weaker (λ (t : Kept). IsSourceKnown number nogoods earlier t.source) (λ (t : Kept). IsSourceKnown number nogoods (earlier ++ s ∷ []) t.source)
-       (λ t h. known_more number nogoods earlier s t.source h) ks all)))
+      let s = inference p premises consequent (k + 1) (label_at p k i) in (
+        found-step (n + 1) 0 earlier s (inferences p ks) refl (omega arith) ∙ ap (λ (d : List Atomic). Some d) (denied-inference p premises consequent (k + 1) (label_at p k i)),
+        subst (λ (steps : List Step). AreFound (denials_of steps) (hints_of number (n + 1) ks) (map (denial_of nogoods) ks)) (append_assoc earlier (s ∷ []) (inferences p ks))
+            (more (earlier ++ s ∷ []) (n + 1) (count-append earlier (s ∷ []) ∙ ap (λ (m : ℕ). m + 1) count)
+            (Each-weaker (λ (t : Kept). IsSourceKnown number nogoods earlier t.source) (λ (t : Kept). IsSourceKnown number nogoods (earlier ++ s ∷ []) t.source)
+            (λ t h. known_more number nogoods earlier s t.source h) ks all)),
+      )
   hint_found earlier n (Nogood j) premises consequent ks count one all more = (one (inferences p ks), more earlier n count all)
 
   pub hints-found : (ks : List Kept) (earlier : List Step) (n : ℕ) → count_of earlier ≡ n → AreKnown earlier ks → AreHints earlier n ks

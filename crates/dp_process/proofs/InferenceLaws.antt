@@ -1,5 +1,5 @@
 -- The inference of a kept turn is implied by the part that gives it, under that part's own label.
-use Rattle.std.proofs.Common.{◌≡◌, ℕ, ◌+◌, ◌-◌, ◌<◌, ◌≤◌, true, false, cond, ◌⊎◌, Option, Some, None, List, [], ◌∷◌, ◌++◌, length, get_or, map, slice_get, refl, sym, ◌∙◌, ap, subst, inl, inr, arith}
+use Rattle.std.proofs.Common.{◌≡◌, ℕ, ◌+◌, ◌-◌, ◌<◌, ◌≤◌, true, false, cond, ◌⊎◌, Option, Some, None, List, [], ◌∷◌, ◌++◌, length, map, slice_get, refl, sym, ◌∙◌, ap, subst, inl, inr, arith}
 use Rattle.std.specs.Prelude.{nat_lt, slice_index_or}
 use Rattle.std.specs.List.{list_any}
 use Rattle.std.specs.Str.{bytes_eq}
@@ -12,13 +12,12 @@ use Rattle.dp_base.proofs.Lists.{Among-get_or, Each-among, Each-get_or, list_any
 use Rattle.dp_domain.specs.Atoms.{Atomic}
 use Rattle.dp_domain.specs.Explanations.{failing}
 use Rattle.dp_domain.specs.States.{cut_all}
-use Rattle.dp_parts.specs.Parts.{label_of}
 use Rattle.dp_parts.specs.Posed.{Labelled, Posed}
 use Rattle.dp_parts.specs.Problems.{Csp, labelled, posed}
 use Rattle.dp_parts.specs.Rules.{implies, is_labelled}
 use Rattle.dp_parts.specs.declared.part.Part.{Part}
 use Rattle.dp_parts.specs.declared.part.Part.TheVariants.{LinLe, LinNe, Nogood as Clause, Within, Element, Cumulative, AllDiff}
-use Rattle.dp_checker.specs.Judged.{grounds, initial_domain, parts_of}
+use Rattle.dp_checker.specs.Judged.{initial_domain, parts_of}
 use Rattle.dp_engine.specs.declared.part_id.PartId.TheVariants.{Model}
 use Rattle.dp_justify.specs.Replay.{HoldsBy, constraint_at}
 use Rattle.dp_writer.specs.Written.{inference}

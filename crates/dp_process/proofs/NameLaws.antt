@@ -13,8 +13,8 @@ use Rattle.dp_domain.specs.declared.verdict.Verdict.TheVariants.{Unsat, Bound}
 use Rattle.dp_judge.specs.Logs.{IsOfGoal}
 use Rattle.dp_parts.specs.Problems.{Csp, IsProblem, LeadBack, posed}
 use Rattle.dp_writer.specs.Atoms.{Named}
-use Rattle.dp_writer.specs.Steps.{Step, atoms_in, atoms_of}
-use Rattle.dp_writer.specs.Written.{bound_of, conclusion, inference, name_in, named, nogood, own_name}
+use Rattle.dp_writer.specs.Steps.{atoms_in, atoms_of}
+use Rattle.dp_writer.specs.Written.{conclusion, inference, name_in, named, nogood, own_name}
 use Rattle.dp_replay.specs.Judging.{LeadsTo, denied}
 
 -- ---- atoms

@@ -1,5 +1,5 @@
 -- Numbers of steps: how many there are, and which denial stands under a number.
-use Rattle.std.proofs.Common.{◌≡◌, ℕ, suc, ◌+◌, ◌<◌, Option, Some, None, cond, is_some, List, [], ◌∷◌, ◌++◌, length, map, refl, sym, ◌∙◌, ap, arith}
+use Rattle.std.proofs.Common.{◌≡◌, ℕ, ◌+◌, ◌<◌, Option, Some, None, cond, is_some, List, [], ◌∷◌, ◌++◌, length, refl, ◌∙◌, ap, arith}
 use Rattle.std.specs.List.{flat_map}
 use Rattle.std.proofs.lemmas.Bool.{eq-eqb, ne_eqb}
 use Rattle.std.proofs.lemmas.Map.Entries.{lookup_head, lookup_tail}
@@ -8,7 +8,6 @@ use Rattle.dp_base.specs.Lists.{Each}
 use Rattle.dp_base.proofs.Lists.{Each-append}
 use Rattle.dp_domain.specs.Atoms.{Atomic}
 use Rattle.dp_checker.specs.Known.{cons_some, denials, first_unknown, found}
-use Rattle.dp_writer.specs.Atoms.{Named}
 use Rattle.dp_writer.specs.Steps.{Step, count_of, counted}
 use Rattle.dp_writer.specs.Steps.Step.{Inference, Nogood, Conclusion}
 use Rattle.dp_replay.specs.Judging.{IsCounted, denials_from, denied, numbered}

@@ -1,6 +1,5 @@
 -- The processed log passes the tests of a log: each step behind those before it, and the conclusion behind all.
-use Rattle.std.proofs.Common.{◌≡◌, ℕ, zero, suc, ◌+◌, ◌-◌, ◌<◌, ◌≤◌, Bool, true, false, cond, Option, List, [], ◌∷◌, ◌++◌, length, map, append_assoc, append-nil, refl, sym, ◌∙◌, ap, subst, arith, length-append}
-use Rattle.std.specs.List.{flat_map}
+use Rattle.std.proofs.Common.{◌≡◌, ℕ, zero, suc, ◌+◌, ◌<◌, ◌≤◌, Bool, true, false, cond, Option, List, [], ◌∷◌, ◌++◌, length, map, append_assoc, append-nil, refl, sym, ◌∙◌, ap, subst, arith, length-append}
 use Rattle.dp_base.specs.Lists.{Among, Each}
 use Rattle.dp_base.proofs.Lists.{Each-append, Each-get_or, Each-weaker}
 use Rattle.dp_domain.specs.Atoms.{Atomic}
@@ -17,9 +16,9 @@ use Rattle.dp_parts.specs.Problems.{Csp, IsProblem, LeadBack, posed}
 use Rattle.dp_parts.specs.Rules.{proves}
 use Rattle.dp_checker.specs.Known.{denials, found}
 use Rattle.dp_writer.specs.Steps.{Step, atoms_in, atoms_of}
-use Rattle.dp_writer.specs.Written.{bound_of, conclusion, named, nogood}
-use Rattle.dp_scaffold.specs.Scaffolds.{IsScaffold, IsScaffoldOf, Learned, nogood_of}
-use Rattle.dp_replay.specs.Judging.{EachPasses, IsCounted, IsProved, IsReplayed, LeadsTo, denials_of}
+use Rattle.dp_writer.specs.Written.{conclusion, named, nogood}
+use Rattle.dp_scaffold.specs.Scaffolds.{nogood_of}
+use Rattle.dp_replay.specs.Judging.{EachPasses, IsCounted, IsProved, LeadsTo, denials_of}
 use Rattle.dp_process.specs.Met.{EachMetFollows, is_met, last_of, uses_at}
 use Rattle.dp_process.specs.Processed.{count_below, hints_of, inferences, kept_at, label_at, number_at, steps_at, steps_below, steps_of, written_of}
 use Rattle.dp_process.specs.Replaying.{LogPasses}
@@ -170,9 +169,11 @@ log_passes p s problem back scaffold scope follows =
     let known = last_known p s.nogoods given [] in
     record {
       counted = Each-weaker (IsGood p s.nogoods given) IsCounted (λ step h. h.0) steps good;
-      passes = passes_append (posed p) [] steps (conclusion p s.claim ∷ []) (all_pass p s.nogoods given (length s.nogoods) (omega arith))
-          (last-concludes p s.nogoods scaffold.last.0 s.claim (number_at p s.nogoods (last_of s.nogoods)) (denials_of steps) scaffold.last.1 scope.claim
-          (ap (λ (all : List Step). found (number_at p s.nogoods (last_of s.nogoods)) (denials_of all)) (sym (append-nil steps)) ∙ known), tt);
+      passes = passes_append (posed p) [] steps (conclusion p s.claim ∷ []) (all_pass p s.nogoods given (length s.nogoods) (omega arith)) (
+        last-concludes p s.nogoods scaffold.last.0 s.claim (number_at p s.nogoods (last_of s.nogoods)) (denials_of steps) scaffold.last.1 scope.claim
+            (ap (λ (all : List Step). found (number_at p s.nogoods (last_of s.nogoods)) (denials_of all)) (sym (append-nil steps)) ∙ known),
+        tt,
+      );
       names = Each-pieces (λ (step : Step). Each (LeadsTo (posed p)) (atoms_of step)) (LeadsTo (posed p)) atoms_of (λ step h. h) (steps ++ conclusion p s.claim ∷ [])
           (Each-append (λ (step : Step). Each (LeadsTo (posed p)) (atoms_of step)) steps (conclusion p s.claim ∷ [])
           (Each-weaker (IsGood p s.nogoods given) (λ (step : Step). Each (LeadsTo (posed p)) (atoms_of step)) (λ step h. h.1) steps good)

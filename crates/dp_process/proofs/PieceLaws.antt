@@ -1,5 +1,5 @@
 -- What the justification of a nogood has: its steps hold, speak of the problem's variables, and prove the nogood.
-use Rattle.std.proofs.Common.{◌≡◌, ℕ, ◌<◌, true, Option, List, [], ◌∷◌, map, refl, sym, subst, inl, inr}
+use Rattle.std.proofs.Common.{◌≡◌, ℕ, ◌<◌, true, Option, List, map, refl, sym, subst, inl, inr}
 use Rattle.std.specs.List.{flat_map}
 use Rattle.std.proofs.lemmas.Bool.{false≢true}
 use Rattle.dp_base.specs.Lists.{Among, Each}
@@ -15,7 +15,7 @@ use Rattle.dp_engine.specs.declared.turn.Turn.TheVariants.{Atom as Gave, Clash a
 use Rattle.dp_parts.specs.Posed.{Posed}
 use Rattle.dp_parts.specs.Problems.{Csp, posed}
 use Rattle.dp_parts.specs.Rules.{proves}
-use Rattle.dp_justify.specs.Pieces.{answer_of, denial_of, end_of, justification, parts_before, place_of, start_of, uses_of}
+use Rattle.dp_justify.specs.Pieces.{answer_of, denial_of, end_of, parts_before, place_of, start_of, uses_of}
 use Rattle.dp_justify.specs.Replay.{Holds, HoldsBy, SpeaksOf}
 use Rattle.dp_justify.specs.declared.kept.Kept.{Kept}
 use Rattle.dp_justify.proofs.JustifyLaws.{IsAsked, empty-proves, steps-hold, steps-prove, steps-speak}
