@@ -1,3 +1,4 @@
 pub mod Met
 pub mod Processed
 pub mod Answers
+pub mod Replaying
