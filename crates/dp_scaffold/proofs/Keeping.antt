@@ -1,0 +1,223 @@
+-- What is said speaks of the problem's variables alone, has a line and a number for each nogood, and not too many: line by line.
+use Rattle.std.proofs.Common.{◌≡◌, ℕ, ◌+◌, ◌<◌, ◌≤◌, ◌^◌, Bool, true, false, not, ◌&&◌, ◌==◌, Option, Some, None, is_none, List, [], ◌∷◌, ◌++◌, length, ℤ, refl, sym, ◌∙◌, ap, subst, arith, length-append, nat_lt, nat_le, if◌then◌else◌}
+use Rattle.std.specs.Prelude.{IfSome, IfOk}
+use Rattle.std.specs.List.{list_all}
+use Rattle.std.specs.Map.{lookup}
+use Rattle.std.specs.Option.{option_map}
+use Rattle.std.specs.Str.{bytes_eq}
+use Rattle.std.proofs.lemmas.Bool.{and_parts, false≢true}
+use Rattle.std.proofs.lemmas.Bool.Decides.{nat_tests}
+use Rattle.dp_base.specs.Lists.{Each}
+use Rattle.dp_base.specs.Names.{named}
+use Rattle.dp_base.proofs.Lists.{Each-append, Each-filter}
+use Rattle.dp_checker.specs.Judged.{has_goal, is_at_least, is_at_most, is_bound, or_else}
+use Rattle.dp_checker.specs.Known.{cons_some, first_undefined, literal_atom, literal_atoms}
+use Rattle.dp_checker.specs.SoundnessLaws.{second_passes}
+use Rattle.dp_checker.proofs.Below.{literals_below}
+use Rattle.dp_domain.specs.Atoms.{Atomic, negated}
+use Rattle.dp_domain.specs.States.{AreOf}
+use Rattle.dp_domain.specs.declared.atom.Op.{Op}
+use Rattle.dp_domain.specs.declared.verdict.Verdict.{Verdict}
+use Rattle.dp_domain.specs.declared.verdict.Verdict.TheVariants.{Unsat as NoSolution, Bound as NoBetter}
+use Rattle.dp_judge.specs.Logs.{IsOfGoal}
+use Rattle.dp_lines.specs.declared.line.Claim.{Claim}
+use Rattle.dp_lines.specs.declared.line.Claim.TheVariants.{Unsat, Bound}
+use Rattle.dp_lines.specs.declared.line.Line.{Line}
+use Rattle.dp_lines.specs.declared.line.Line.TheVariants.{Atom, Inference, Nogood, Delete, Conclude}
+use Rattle.dp_parts.specs.declared.goal.Goal.{Goal}
+use Rattle.dp_parts.specs.declared.goal.Goal.TheVariants.{Satisfy, Minimize, Maximize}
+use Rattle.dp_parts.specs.Problems.{Csp, IsGoalOf, IsProblem, posed}
+use Rattle.dp_rule_clause.specs.Nogoods.{each_once, same_atom}
+use Rattle.dp_scaffold.specs.Gathering.{Gathered, after, claim_refusal, claimed, concluded, first_refusal, has_room, line_refusal, most_literals, most_nogoods, step_refusal, unless, with_atom, with_claim}
+use Rattle.dp_scaffold.specs.Kept.{IsClaimed, IsClosed, IsClosedBy, IsKept}
+use Rattle.dp_scaffold.specs.Scaffolds.{IsScaffoldOf, nogood_of}
+use Rattle.dp_scaffold.specs.declared.refusal.GatherWhy.{GatherWhy}
+use Rattle.dp_scaffold.specs.declared.refusal.GatherWhy.TheVariants.{AfterConclusion, NoGoal, TooMany, UnknownAtom, WrongBound}
+
+-- ---- tests that pass
+
+some_is_none : {A : Type 0} (x : A) (P : Type 0) → Some x ≡ None → P
+some_is_none x P e = cc
+
+first_passes : {A : Type 0} (a b : Option A) → or_else a b ≡ None → a ≡ None
+first_passes None b e = refl
+first_passes (Some x) b e = e
+
+-- a test that does not refuse holds
+pub holds_where_passed : (b : Bool) (why : GatherWhy) → unless b why ≡ None → b ≡ true
+holds_where_passed true why e = refl
+holds_where_passed false why e = some_is_none why (false ≡ true) e
+
+none_where : {A : Type 0} (o : Option A) → is_none o ≡ true → o ≡ None
+none_where None e = refl
+none_where (Some x) e = absurd (false≢true e)
+
+-- a line passes where its kind's tests do and nothing is claimed
+pub unclaimed : (p : Csp) (g : Gathered) (line : Line) → first_refusal (posed p) g line ≡ None → g.claim ≡ None
+unclaimed p g line e =
+    none_where g.claim (holds_where_passed (is_none g.claim) AfterConclusion (first_passes (unless (is_none g.claim) AfterConclusion) (line_refusal (posed p) g line) e))
+
+pub by_kind : (p : Csp) (g : Gathered) (line : Line) → first_refusal (posed p) g line ≡ None → line_refusal (posed p) g line ≡ None
+by_kind p g line e = second_passes (unless (is_none g.claim) AfterConclusion) (line_refusal (posed p) g line) e
+
+-- ---- nogoods
+
+-- what holds of each atom holds of each that is kept once
+each_once-each : (P : Atomic → Type 0) (atoms : List Atomic) → Each P atoms → Each P (each_once atoms)
+each_once-each P [] e = tt
+each_once-each P (a ∷ atoms) e = (e.0, Each-filter P (λ b. not (same_atom a b)) (each_once atoms) (each_once-each P atoms e.1))
+
+-- a conclusion's nogood is on the problem's variables
+nogood_below : (p : Csp) (v : Verdict) → IsOfGoal p v → AreOf p.initial (nogood_of v)
+nogood_below p NoSolution h = tt
+nogood_below p (NoBetter a) h = (h.1, tt)
+
+one_more : {A : Type 0} (xs : List A) (x : A) → length (xs ++ x ∷ []) ≡ length xs + 1
+one_more xs x = length-append xs (x ∷ [])
+
+more_than : {A B : Type 0} (xs : List A) (ys : List B) (x : A) (y : B) → length xs ≡ length ys → length (xs ++ x ∷ []) ≡ length (ys ++ y ∷ [])
+more_than xs ys x y e = one_more xs x ∙ ap (λ (n : ℕ). n + 1) e ∙ sym (one_more ys y)
+
+room_parts : (n m : ℕ) → (nat_lt n most_nogoods && nat_le m most_literals) ≡ true → (n + 1 ≤ most_nogoods) × (m ≤ most_literals)
+room_parts n m e =
+    let so : (nat_lt n most_nogoods ≡ true) × (nat_le m most_literals ≡ true) = and_parts (nat_lt n most_nogoods) (nat_le m most_literals) e in
+    (few n so.0, small m so.1)
+  where
+    few : (n : ℕ) → nat_lt n most_nogoods ≡ true → n + 1 ≤ most_nogoods
+    few n e = grind (arith, nat_tests)
+    small : (m : ℕ) → nat_le m most_literals ≡ true → m ≤ most_literals
+    small m e = grind (arith, nat_tests)
+
+-- ---- the goal
+
+in_range : (n : ℕ) (goal : Goal) (a : Atomic) → IsGoalOf n goal → is_bound goal a ≡ true → a.var < n
+in_range n Satisfy a h e = absurd (false≢true e)
+in_range n (Minimize x) a h e = same_below (a.var == x) (is_at_least a.op) e refl
+  where
+    same_below : (b c : Bool) → (b && c) ≡ true → (a.var == x) ≡ b → a.var < n
+    same_below true c e f = let k : a.var ≡ x = grind (arith, nat_tests, f) in omega (arith, k, h)
+    same_below false c e f = absurd (false≢true e)
+in_range n (Maximize x) a h e = same_below (a.var == x) (is_at_most a.op) e refl
+  where
+    same_below : (b c : Bool) → (b && c) ≡ true → (a.var == x) ≡ b → a.var < n
+    same_below true c e f = let k : a.var ≡ x = grind (arith, nat_tests, f) in omega (arith, k, h)
+    same_below false c e f = absurd (false≢true e)
+
+bound_of_goal : (p : Csp) (o : Option Atomic) → IsProblem p → list_all (is_bound p.goal) (cons_some o []) ≡ true → IfSome (option_map NoBetter o) (IsOfGoal p)
+bound_of_goal p None whole e = tt
+bound_of_goal p (Some a) whole e =
+    let aimed : is_bound p.goal a ≡ true = (and_parts (is_bound p.goal a) true e).0 in
+    (aimed, in_range (length p.initial) p.goal a whole.goal aimed)
+
+-- what a claim that passes concludes is of the goal
+of_goal : (p : Csp) (g : Gathered) (claim : Claim) → IsProblem p → claim_refusal (posed p) g claim ≡ None → IfSome (concluded g claim) (IsOfGoal p)
+of_goal p g Unsat whole e = tt
+of_goal p g (Bound literal) whole e =
+    bound_of_goal p (literal_atom g.atoms literal) whole
+    (holds_where_passed (list_all (is_bound p.goal) (literal_atoms g.atoms (literal ∷ []))) WrongBound
+    (second_passes (unless (has_goal p.goal) NoGoal) _ (second_passes (option_map UnknownAtom (first_undefined g.atoms (literal ∷ []))) _ e)))
+
+-- ---- lines
+
+where_some : {A : Type 0} (P : A → Type 0) (b : Bool) (x : A) (o : Option A) → P x → IfSome o P → IfSome (if b then Some x else o) P
+where_some P true x o h e = h
+where_some P false x o h e = e
+
+found_where : {K A : Type 0} (P : A → Type 0) (test : K → Bool) (entries : List (K × A)) → Each (λ entry. P entry.1) entries → IfSome (lookup test entries) P
+found_where P test [] e = tt
+found_where P test (entry ∷ entries) e = where_some P (test entry.0) entry.1 (lookup test entries) e.0 (found_where P test entries e.1)
+
+kept_atom : (p : Csp) (g : Gathered) (id : ℕ) (op : Op) (value : ℤ) (o : Option ℕ) → IsKept p g → IfSome o (λ x. x < length p.initial) → IsKept p (with_atom g id op value o)
+kept_atom p g id op value None kept h = kept
+kept_atom p g id op value (Some x) kept h = record {
+  problem = kept.problem;
+  atoms = Each-append (λ (entry : ℕ × Atomic). entry.1.var < length p.initial) g.atoms ((id, record { var = x; op = op; value = value }) ∷ []) kept.atoms (h, tt);
+  nogoods = kept.nogoods;
+  lines = kept.lines;
+  ids = kept.ids;
+  literals = kept.literals;
+  claim = kept.claim;
+}
+
+room_more : (p : Csp) (nogoods : List (List Atomic)) (nogood : List Atomic) (claim : Option Verdict) → claim ≡ None → length nogoods + 1 ≤ most_nogoods → IsClaimed p (nogoods ++ nogood ∷ []) claim
+room_more p nogoods nogood claim none few =
+    subst (λ (o : Option Verdict). IsClaimed p (nogoods ++ nogood ∷ []) o) (sym none) (let k = one_more nogoods nogood in omega (arith, k, few))
+
+kept_nogood : (p : Csp) (g : Gathered) (number id : ℕ) (atoms : List ℤ) (hints : List ℕ) → IsKept p g → g.claim ≡ None → line_refusal (posed p) g (Nogood id atoms hints) ≡ None
+    → IsKept p (after (posed p) g number (Nogood id atoms hints))
+kept_nogood p g number id atoms hints kept none e =
+    let room : (length g.nogoods + 1 ≤ most_nogoods) × (g.literals + length atoms ≤ most_literals) =
+    room_parts (length g.nogoods) (g.literals + length atoms) (holds_where_passed (has_room g (length atoms)) TooMany (second_passes (step_refusal g id atoms) _ e)) in
+    let nogood : List Atomic = each_once (literal_atoms g.atoms atoms) in
+    record {
+      problem = kept.problem;
+      atoms = kept.atoms;
+      nogoods = Each-append (AreOf p.initial) g.nogoods (nogood ∷ []) kept.nogoods
+          (each_once-each (λ a. a.var < length p.initial) (literal_atoms g.atoms atoms) (literals_below (length p.initial) g.atoms kept.atoms atoms), tt);
+      lines = more_than g.lines g.nogoods number nogood kept.lines;
+      ids = more_than g.ids g.nogoods id nogood kept.ids;
+      literals = room.1;
+      claim = room_more p g.nogoods nogood g.claim none room.0;
+    }
+
+kept_claim : (p : Csp) (g : Gathered) (number : ℕ) (o : Option Verdict) → IsKept p g → g.claim ≡ None → IfSome o (IsOfGoal p) → IsKept p (with_claim g number o)
+kept_claim p g number None kept none h = kept
+kept_claim p g number (Some verdict) kept none h = record {
+  problem = kept.problem;
+  atoms = kept.atoms;
+  nogoods = Each-append (AreOf p.initial) g.nogoods (nogood_of verdict ∷ []) kept.nogoods (nogood_below p verdict h, tt);
+  lines = more_than g.lines g.nogoods number (nogood_of verdict) kept.lines;
+  ids = more_than g.ids g.nogoods 0 (nogood_of verdict) kept.ids;
+  literals = kept.literals;
+  claim = (h, (g.nogoods, refl, subst (λ (o : Option Verdict). IsClaimed p g.nogoods o) none kept.claim));
+}
+
+kept_line : (p : Csp) (g : Gathered) (number : ℕ) (line : Line) → IsKept p g → g.claim ≡ None → line_refusal (posed p) g line ≡ None → IsKept p (after (posed p) g number line)
+kept_line p g number (Atom id name op value) kept none e =
+    kept_atom p g id op value (named p.names name) kept (found_where (λ x. x < length p.initial) (bytes_eq name) p.names kept.problem.names)
+kept_line p g number (Inference id premises consequent constraint label) kept none e = record {
+  problem = kept.problem;
+  atoms = kept.atoms;
+  nogoods = kept.nogoods;
+  lines = kept.lines;
+  ids = kept.ids;
+  literals = kept.literals;
+  claim = kept.claim;
+}
+kept_line p g number (Nogood id atoms hints) kept none e = kept_nogood p g number id atoms hints kept none e
+kept_line p g number (Delete id) kept none e = kept
+kept_line p g number (Conclude claim) kept none e = kept_claim p g number (concluded g claim) kept none (of_goal p g claim kept.problem e)
+
+-- a line that no test refuses keeps what is kept
+pub kept_after : (p : Csp) (g : Gathered) (number : ℕ) (line : Line) → IsKept p g → first_refusal (posed p) g line ≡ None → IsKept p (after (posed p) g number line)
+kept_after p g number line kept e = kept_line p g number line kept (unclaimed p g line e) (by_kind p g line e)
+
+-- ---- scaffolds
+
+-- where a claim is kept, the nogoods are closed by it
+closed_by : (p : Csp) (g : Gathered) (o : Option Verdict) → IsKept p g → g.claim ≡ o → IsClosedBy g o
+closed_by p g None kept e = tt
+closed_by p g (Some verdict) kept e =
+    let claim : IsClaimed p g.nogoods (Some verdict) = subst (λ (o : Option Verdict). IsClaimed p g.nogoods o) e kept.claim in
+    record {
+      lines = kept.lines;
+      ids = kept.ids;
+      last = (claim.1.0, claim.1.1);
+      few = few claim.1.0 (nogood_of verdict) g.nogoods claim.1.1 claim.1.2;
+    }
+  where
+    few : (earlier : List (List Atomic)) (last : List Atomic) (nogoods : List (List Atomic)) → nogoods ≡ earlier ++ last ∷ [] → length earlier ≤ most_nogoods → length nogoods < 2 ^ 32
+    few earlier last nogoods e h = let k = ap (λ (l : List (List Atomic)). length l) e in let m = one_more earlier last in omega (arith, k, m, h)
+
+pub closed : (p : Csp) (g : Gathered) → IsKept p g → IsClosed g
+closed p g kept = closed_by p g g.claim kept refl
+
+scaffold_by : (p : Csp) (lines : ℕ) (g : Gathered) (o : Option Verdict) → IsKept p g → g.claim ≡ o → IfOk (claimed lines g o) (IsScaffoldOf p)
+scaffold_by p lines g None kept e = tt
+scaffold_by p lines g (Some verdict) kept e =
+    let claim : IsClaimed p g.nogoods (Some verdict) = subst (λ (o : Option Verdict). IsClaimed p g.nogoods o) e kept.claim in
+    record { nogoods = kept.nogoods; claim = claim.0 }
+
+-- what is kept is a scaffold of the problem, where it is claimed
+pub scaffold_kept : (p : Csp) (lines : ℕ) (g : Gathered) → IsKept p g → IfOk (claimed lines g g.claim) (IsScaffoldOf p)
+scaffold_kept p lines g kept = scaffold_by p lines g g.claim kept refl

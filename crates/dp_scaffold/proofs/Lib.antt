@@ -1,0 +1,4 @@
+pub mod Keeping
+pub mod Rooms
+pub mod NextLaws
+pub mod Bringing
