@@ -31,34 +31,8 @@ use Rattle.dp_rule_clause.specs.Nogoods.{each_once, same_atom}
 use Rattle.dp_scaffold.specs.Gathering.{Gathered, after, claim_refusal, claimed, concluded, first_refusal, has_room, line_refusal, most_literals, most_nogoods, step_refusal, unless, with_atom, with_claim}
 use Rattle.dp_scaffold.specs.Kept.{IsClaimed, IsClosed, IsClosedBy, IsKept}
 use Rattle.dp_scaffold.specs.Scaffolds.{IsScaffoldOf, nogood_of}
-use Rattle.dp_scaffold.specs.declared.refusal.GatherWhy.{GatherWhy}
-use Rattle.dp_scaffold.specs.declared.refusal.GatherWhy.TheVariants.{AfterConclusion, NoGoal, TooMany, UnknownAtom, WrongBound}
-
--- ---- tests that pass
-
-some_is_none : {A : Type 0} (x : A) (P : Type 0) → Some x ≡ None → P
-some_is_none x P e = cc
-
-first_passes : {A : Type 0} (a b : Option A) → or_else a b ≡ None → a ≡ None
-first_passes None b e = refl
-first_passes (Some x) b e = e
-
--- a test that does not refuse holds
-pub holds_where_passed : (b : Bool) (why : GatherWhy) → unless b why ≡ None → b ≡ true
-holds_where_passed true why e = refl
-holds_where_passed false why e = some_is_none why (false ≡ true) e
-
-none_where : {A : Type 0} (o : Option A) → is_none o ≡ true → o ≡ None
-none_where None e = refl
-none_where (Some x) e = absurd (false≢true e)
-
--- a line passes where its kind's tests do and nothing is claimed
-pub unclaimed : (p : Csp) (g : Gathered) (line : Line) → first_refusal (posed p) g line ≡ None → g.claim ≡ None
-unclaimed p g line e =
-    none_where g.claim (holds_where_passed (is_none g.claim) AfterConclusion (first_passes (unless (is_none g.claim) AfterConclusion) (line_refusal (posed p) g line) e))
-
-pub by_kind : (p : Csp) (g : Gathered) (line : Line) → first_refusal (posed p) g line ≡ None → line_refusal (posed p) g line ≡ None
-by_kind p g line e = second_passes (unless (is_none g.claim) AfterConclusion) (line_refusal (posed p) g line) e
+use Rattle.dp_scaffold.specs.declared.refusal.GatherWhy.TheVariants.{NoGoal, UnknownAtom, WrongBound}
+use Rattle.dp_scaffold.proofs.Passing.{by_kind, holds_where_passed, nogood_room, unclaimed}
 
 -- ---- nogoods
 
@@ -77,16 +51,6 @@ one_more xs x = length-append xs (x ∷ [])
 
 more_than : {A B : Type 0} (xs : List A) (ys : List B) (x : A) (y : B) → length xs ≡ length ys → length (xs ++ x ∷ []) ≡ length (ys ++ y ∷ [])
 more_than xs ys x y e = one_more xs x ∙ ap (λ (n : ℕ). n + 1) e ∙ sym (one_more ys y)
-
-room_parts : (n m : ℕ) → (nat_lt n most_nogoods && nat_le m most_literals) ≡ true → (n + 1 ≤ most_nogoods) × (m ≤ most_literals)
-room_parts n m e =
-    let so : (nat_lt n most_nogoods ≡ true) × (nat_le m most_literals ≡ true) = and_parts (nat_lt n most_nogoods) (nat_le m most_literals) e in
-    (few n so.0, small m so.1)
-  where
-    few : (n : ℕ) → nat_lt n most_nogoods ≡ true → n + 1 ≤ most_nogoods
-    few n e = grind (arith, nat_tests)
-    small : (m : ℕ) → nat_le m most_literals ≡ true → m ≤ most_literals
-    small m e = grind (arith, nat_tests)
 
 -- ---- the goal
 
@@ -146,8 +110,7 @@ room_more p nogoods nogood claim none few =
 kept_nogood : (p : Csp) (g : Gathered) (number id : ℕ) (atoms : List ℤ) (hints : List ℕ) → IsKept p g → g.claim ≡ None → line_refusal (posed p) g (Nogood id atoms hints) ≡ None
     → IsKept p (after (posed p) g number (Nogood id atoms hints))
 kept_nogood p g number id atoms hints kept none e =
-    let room : (length g.nogoods + 1 ≤ most_nogoods) × (g.literals + length atoms ≤ most_literals) =
-    room_parts (length g.nogoods) (g.literals + length atoms) (holds_where_passed (has_room g (length atoms)) TooMany (second_passes (step_refusal g id atoms) _ e)) in
+    let room : (length g.nogoods + 1 ≤ most_nogoods) × (g.literals + length atoms ≤ most_literals) = nogood_room (posed p) g id atoms hints e in
     let nogood : List Atomic = each_once (literal_atoms g.atoms atoms) in
     record {
       problem = kept.problem;
@@ -190,7 +153,7 @@ kept_line p g number (Conclude claim) kept none e = kept_claim p g number (concl
 
 -- a line that no test refuses keeps what is kept
 pub kept_after : (p : Csp) (g : Gathered) (number : ℕ) (line : Line) → IsKept p g → first_refusal (posed p) g line ≡ None → IsKept p (after (posed p) g number line)
-kept_after p g number line kept e = kept_line p g number line kept (unclaimed p g line e) (by_kind p g line e)
+kept_after p g number line kept e = kept_line p g number line kept (unclaimed (posed p) g line e) (by_kind (posed p) g line e)
 
 -- ---- scaffolds
 
