@@ -1,6 +1,6 @@
 -- What is said speaks of the problem's variables alone, has a line and a number for each nogood, and not too many: line by line.
-use Rattle.std.proofs.Common.{◌≡◌, ℕ, ◌+◌, ◌<◌, ◌≤◌, ◌^◌, Bool, true, false, not, ◌&&◌, ◌==◌, Option, Some, None, is_none, List, [], ◌∷◌, ◌++◌, length, ℤ, refl, sym, ◌∙◌, ap, subst, arith, length-append, nat_lt, nat_le, if◌then◌else◌}
-use Rattle.std.specs.Prelude.{IfSome, IfOk}
+use Rattle.std.proofs.Common.{◌≡◌, ℕ, ◌+◌, ◌<◌, ◌≤◌, Bool, true, false, not, ◌&&◌, ◌==◌, Option, Some, None, List, [], ◌∷◌, ◌++◌, length, ℤ, refl, sym, ◌∙◌, ap, subst, arith, length-append, if◌then◌else◌}
+use Rattle.std.specs.Prelude.{IfSome}
 use Rattle.std.specs.List.{list_all}
 use Rattle.std.specs.Map.{lookup}
 use Rattle.std.specs.Option.{option_map}
@@ -10,7 +10,7 @@ use Rattle.std.proofs.lemmas.Bool.Decides.{nat_tests}
 use Rattle.dp_base.specs.Lists.{Each}
 use Rattle.dp_base.specs.Names.{named}
 use Rattle.dp_base.proofs.Lists.{Each-append, Each-filter}
-use Rattle.dp_checker.specs.Judged.{has_goal, is_at_least, is_at_most, is_bound, or_else}
+use Rattle.dp_checker.specs.Judged.{has_goal, is_at_least, is_at_most, is_bound}
 use Rattle.dp_checker.specs.Known.{cons_some, first_undefined, literal_atom, literal_atoms}
 use Rattle.dp_checker.specs.SoundnessLaws.{second_passes}
 use Rattle.dp_checker.proofs.Below.{literals_below}
@@ -28,9 +28,9 @@ use Rattle.dp_parts.specs.declared.goal.Goal.{Goal}
 use Rattle.dp_parts.specs.declared.goal.Goal.TheVariants.{Satisfy, Minimize, Maximize}
 use Rattle.dp_parts.specs.Problems.{Csp, IsGoalOf, IsProblem, posed}
 use Rattle.dp_rule_clause.specs.Nogoods.{each_once, same_atom}
-use Rattle.dp_scaffold.specs.Gathering.{Gathered, after, claim_refusal, claimed, concluded, first_refusal, has_room, line_refusal, most_literals, most_nogoods, step_refusal, unless, with_atom, with_claim}
-use Rattle.dp_scaffold.specs.Kept.{IsClaimed, IsClosed, IsClosedBy, IsKept}
-use Rattle.dp_scaffold.specs.Scaffolds.{IsScaffoldOf, nogood_of}
+use Rattle.dp_scaffold.specs.Gathering.{Gathered, after, claim_refusal, concluded, first_refusal, line_refusal, most_literals, most_nogoods, unless, with_atom, with_claim}
+use Rattle.dp_scaffold.specs.Kept.{IsClaimed, IsKept}
+use Rattle.dp_scaffold.specs.Scaffolds.{nogood_of}
 use Rattle.dp_scaffold.specs.declared.refusal.GatherWhy.TheVariants.{NoGoal, UnknownAtom, WrongBound}
 use Rattle.dp_scaffold.proofs.Passing.{by_kind, holds_where_passed, nogood_room, unclaimed}
 
@@ -154,33 +154,3 @@ kept_line p g number (Conclude claim) kept none e = kept_claim p g number (concl
 -- a line that no test refuses keeps what is kept
 pub kept_after : (p : Csp) (g : Gathered) (number : ℕ) (line : Line) → IsKept p g → first_refusal (posed p) g line ≡ None → IsKept p (after (posed p) g number line)
 kept_after p g number line kept e = kept_line p g number line kept (unclaimed (posed p) g line e) (by_kind (posed p) g line e)
-
--- ---- scaffolds
-
--- where a claim is kept, the nogoods are closed by it
-closed_by : (p : Csp) (g : Gathered) (o : Option Verdict) → IsKept p g → g.claim ≡ o → IsClosedBy g o
-closed_by p g None kept e = tt
-closed_by p g (Some verdict) kept e =
-    let claim : IsClaimed p g.nogoods (Some verdict) = subst (λ (o : Option Verdict). IsClaimed p g.nogoods o) e kept.claim in
-    record {
-      lines = kept.lines;
-      ids = kept.ids;
-      last = (claim.1.0, claim.1.1);
-      few = few claim.1.0 (nogood_of verdict) g.nogoods claim.1.1 claim.1.2;
-    }
-  where
-    few : (earlier : List (List Atomic)) (last : List Atomic) (nogoods : List (List Atomic)) → nogoods ≡ earlier ++ last ∷ [] → length earlier ≤ most_nogoods → length nogoods < 2 ^ 32
-    few earlier last nogoods e h = let k = ap (λ (l : List (List Atomic)). length l) e in let m = one_more earlier last in omega (arith, k, m, h)
-
-pub closed : (p : Csp) (g : Gathered) → IsKept p g → IsClosed g
-closed p g kept = closed_by p g g.claim kept refl
-
-scaffold_by : (p : Csp) (lines : ℕ) (g : Gathered) (o : Option Verdict) → IsKept p g → g.claim ≡ o → IfOk (claimed lines g o) (IsScaffoldOf p)
-scaffold_by p lines g None kept e = tt
-scaffold_by p lines g (Some verdict) kept e =
-    let claim : IsClaimed p g.nogoods (Some verdict) = subst (λ (o : Option Verdict). IsClaimed p g.nogoods o) e kept.claim in
-    record { nogoods = kept.nogoods; claim = claim.0 }
-
--- what is kept is a scaffold of the problem, where it is claimed
-pub scaffold_kept : (p : Csp) (lines : ℕ) (g : Gathered) → IsKept p g → IfOk (claimed lines g g.claim) (IsScaffoldOf p)
-scaffold_kept p lines g kept = scaffold_by p lines g g.claim kept refl

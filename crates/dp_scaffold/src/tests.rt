@@ -44,8 +44,9 @@ fn problem_of(alloc: Global, goal: Goal) -> Result<Problem, Memory>
 {
     let own = [0, 1].to_vec(alloc)?;
     let state = state_of(alloc)?;
+    let constraints = Vec::new(alloc);
     let names = names_of(alloc)?;
-    Ok(Problem::new(names, own, state, Vec::new(alloc), goal))
+    Ok(Problem::new(names, own, state, constraints, goal))
 }
 
 // What is asked of obj.
