@@ -1,3 +1,8 @@
 pub mod Scaffolds
 pub mod Gathering
 pub mod Texts
+pub mod Answers
+pub mod Rooms
+pub mod Adding
+pub mod Kept
+pub mod Left
