@@ -1,5 +1,5 @@
-pub mod MetLaws
-pub mod PieceLaws
+pub mod ClosureLaws
+pub mod KeptLaws
 pub mod NumberLaws
 pub mod NameLaws
 pub mod InferenceLaws

@@ -25,10 +25,10 @@ use Rattle.dp_process.specs.Replaying.{LogPasses}
 use Rattle.dp_process.proofs.ConclusionLaws.{last-concludes}
 use Rattle.dp_process.proofs.HintLaws.{IsKnownIn, IsSourceKnown, count-below, hints-found, known-source, nogood-known}
 use Rattle.dp_process.proofs.InferenceLaws.{inference-implied}
-use Rattle.dp_process.proofs.MetLaws.{UsesBelow, met-is, met-last, met-used}
+use Rattle.dp_process.proofs.ClosureLaws.{UsesBelow, met-is, met-last, met-used}
 use Rattle.dp_process.proofs.NameLaws.{atoms-named, leads-bound, leads-inference, leads-nogood}
 use Rattle.dp_process.proofs.NumberLaws.{Each-pieces, found-denials, found-known}
-use Rattle.dp_process.proofs.PieceLaws.{IsPiece, piece-is, piece-proves, used-below, used-each}
+use Rattle.dp_process.proofs.KeptLaws.{IsPiece, piece-is, piece-proves, used-below, used-each}
 
 -- ---- steps one after another
 
