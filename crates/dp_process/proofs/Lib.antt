@@ -6,3 +6,4 @@ pub mod InferenceLaws
 pub mod HintLaws
 pub mod ConclusionLaws
 pub mod PassLaws
+pub mod AcceptLaws
