@@ -42,6 +42,7 @@ room_parts n m e =
   where
     few : (n : ℕ) → nat_lt n most_nogoods ≡ true → n + 1 ≤ most_nogoods
     few n e = grind (arith, nat_tests, e)
+
     small : (m : ℕ) → nat_le m most_literals ≡ true → m ≤ most_literals
     small m e = grind (arith, nat_tests, e)
 

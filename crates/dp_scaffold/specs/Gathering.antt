@@ -103,7 +103,7 @@ after p g number (Nogood id atoms hints) =
       literals = g.literals + length atoms;
       nogoods = g.nogoods ++ each_once (literal_atoms g.atoms atoms) ∷ [];
       lines = g.lines ++ number ∷ [];
-      ids = g.ids ++ id ∷ []
+      ids = g.ids ++ id ∷ [];
     }
 after p g number (Delete id) = g
 after p g number (Conclude claim) = with_claim g number (concluded g claim)

@@ -22,7 +22,12 @@ use dp_rule_clause::Nogood;
 use std::alloc::Global;
 
 /// Adds what the line with this number says, which no test refuses.
-pub fn add_line(problem: &Problem, facts: &mut Facts, number: u64, line: &Line) -> Result<(), Memory>
+pub fn add_line(
+    problem: &Problem,
+    facts: &mut Facts,
+    number: u64,
+    line: &Line,
+) -> Result<(), Memory>
     requires allowed { IsAllowed line.now }
     requires literals { facts.old.literals ≤ most_literals }
     requires passes { line_refusal (posed problem.now) (gathered_of facts.old) line.now ≡ None }

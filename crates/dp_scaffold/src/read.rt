@@ -22,7 +22,11 @@ const LIMITS: Limits = Limits {
 };
 
 /// Reads a scaffold of the problem: its lines in order, up to the first that cannot be read or that a test refuses.
-pub fn read_scaffold(alloc: Global, problem: &Problem, text: &[u8]) -> Result<ScaffoldAnswer, Memory>
+pub fn read_scaffold(
+    alloc: Global,
+    problem: &Problem,
+    text: &[u8],
+) -> Result<ScaffoldAnswer, Memory>
     requires { length text.now ≤ 2 ^ 62 }
     ensures answer { IfOk result (λ answer. answer ≡ scaffold_text (posed problem.now) text.now) }
     ensures scaffold { IfOk result (IsScaffoldAnswer problem.now) }
@@ -71,11 +75,7 @@ enum Next {
 }
 
 /// Takes the next line.
-fn take_next(
-    alloc: Global,
-    reader: &mut Reader,
-    gatherer: &mut Gatherer,
-) -> Result<Next, Memory>
+fn take_next(alloc: Global, reader: &mut Reader, gatherer: &mut Gatherer) -> Result<Next, Memory>
     requires fed { IsFed reader.old }
     requires going { IsOk gatherer.old.progress }
     ensures next { IfOk result (λ next. IsNext next (posed gatherer.old.problem) gatherer.old.progress reader.old gatherer.new.progress reader.new) }

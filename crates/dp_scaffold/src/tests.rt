@@ -180,7 +180,12 @@ const REFUSED: [(Aim, &[u8], u64, GatherWhy); 14] = [
         3,
         GatherWhy::StepTwice,
     ),
-    (Nothing, b"a 1 [p >= 1]\nn 7 -1\nn 7 1\n", 3, GatherWhy::StepTwice),
+    (
+        Nothing,
+        b"a 1 [p >= 1]\nn 7 -1\nn 7 1\n",
+        3,
+        GatherWhy::StepTwice,
+    ),
     (Nothing, b"a 1 [p <= 1]\nc 1\n", 2, GatherWhy::NoGoal),
     (Least, b"a 1 [p >= 1]\nc 1\n", 2, GatherWhy::WrongBound),
     (Least, b"a 1 [obj <= 7]\nc 1\n", 2, GatherWhy::WrongBound),
@@ -234,7 +239,11 @@ fn is_atom(atom: &Atom, named: &Named) -> bool {
 }
 
 fn are_atoms(atoms: &[Atom], named: &[Named]) -> bool {
-    atoms.len() == named.len() && atoms.iter().zip(named).all(|(atom, name)| is_atom(atom, name))
+    atoms.len() == named.len()
+        && atoms
+            .iter()
+            .zip(named)
+            .all(|(atom, name)| is_atom(atom, name))
 }
 
 // The atoms of a nogood, its line and its number.
@@ -300,7 +309,11 @@ fn given_scaffolds(rt: HostRuntime) -> Result<(), Fail> {
         };
         assert!(rt; has_rows(&scaffold, *rows), "text {place}");
         let claimed = bound_of(&scaffold.claim());
-        assert_eq!(rt; claimed.map(|atom| (atom.var().0, atom.op(), atom.value())), *bound, "text {place}");
+        assert_eq!(rt;
+            claimed.map(|atom| (atom.var().0, atom.op(), atom.value())),
+            *bound,
+            "text {place}"
+        );
     }
     Ok(())
 }
