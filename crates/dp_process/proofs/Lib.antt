@@ -7,3 +7,4 @@ pub mod HintLaws
 pub mod ConclusionLaws
 pub mod PassLaws
 pub mod AcceptLaws
+pub mod RightLaws
