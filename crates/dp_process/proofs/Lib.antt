@@ -1,3 +1,8 @@
+pub mod MetLaws
+pub mod PieceLaws
+pub mod MarkLaws
+pub mod WritingLaws
+pub mod LogLaws
 pub mod ClosureLaws
 pub mod KeptLaws
 pub mod NumberLaws
@@ -8,3 +13,4 @@ pub mod ConclusionLaws
 pub mod PassLaws
 pub mod AcceptLaws
 pub mod RightLaws
+pub mod TestProblem

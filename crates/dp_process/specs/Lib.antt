@@ -1,4 +1,6 @@
 pub mod Met
 pub mod Processed
 pub mod Answers
+pub mod Marks
+pub mod Writing
 pub mod Replaying

@@ -2,5 +2,14 @@
 #![tactic(auto)]
 
 mod laws;
+mod met;
+mod processing;
+mod refusal;
+mod write;
 
 pub use laws::log_passes;
+pub use processing::{Processed, process};
+pub use refusal::ProcessRefusal;
+
+#[cfg(test)]
+mod tests;

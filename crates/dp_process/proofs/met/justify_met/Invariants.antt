@@ -1,0 +1,6 @@
+use Rattle.dp_parts.specs.Problems.{posed}
+use Rattle.dp_process.proofs.MarkLaws.{IsDown}
+use Rattle.dp_process.proofs.met.justify_met.Given as goal
+
+abbrev pub invariant-loop-above : goal.invariant-loop-above
+invariant-loop-above l = IsDown (posed l.problem) l.nogoods l.above l.marks.items l.pieces.items

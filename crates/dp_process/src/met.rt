@@ -1,0 +1,118 @@
+// The nogoods that the conclusion rests on, found and justified from the last one back.
+
+ghost use Rattle.std.specs.Prelude.{◌≡◌, ℕ, ◌-◌, ◌==◌, ◌^◌, ◌<◌, ◌||◌, ◌&&◌, true, false, nat_eq, length, slice_index_or, slice_set, IfOk, OnOk};
+ghost use Rattle.std.specs.List.{list_any};
+ghost use Rattle.dp_base.specs.Lists.{Each};
+ghost use Rattle.dp_domain.specs.States.{AreOf};
+ghost use Rattle.dp_justify.specs.Pieces.{justification};
+ghost use Rattle.dp_parts.specs.Problems.{IsProblem, posed};
+ghost use Rattle.dp_process.specs.Met.{uses_at};
+ghost use Rattle.dp_process.specs.Marks.{AreMarked, IsJustified, outcome_of};
+
+use dp_base::Memory;
+use dp_justify::{Piece, justify};
+use dp_parts::Problem;
+use dp_rule_clause::Nogood;
+use std::alloc::Global;
+
+/// What is found of the nogoods that are met.
+#[derive(Drop)]
+pub(crate) enum Justified {
+    /// For each place, from the last one down, the nogood's justification, and none where it is not met.
+    All(Vec<Option<Piece>>),
+    /// The place of the last one that does not follow.
+    Failing(usize),
+}
+
+/// What is found of one nogood.
+#[derive(Drop)]
+pub(crate) enum Outcome {
+    /// Its justification, and none where it is not met.
+    Passes(Option<Piece>),
+    /// It is met, and does not follow.
+    Fails,
+}
+
+/// Justifies each nogood that is met once, from the conclusion back, until one does not follow.
+pub(crate) fn justify_met(
+    alloc: Global,
+    problem: &Problem,
+    nogoods: &[Nogood],
+) -> Result<Justified, Memory>
+    requires some { 0 < length nogoods.now }
+    requires few { length nogoods.now < 2 ^ 32 }
+    requires nogoods { Each (AreOf problem.now.initial) nogoods.now }
+    ensures { IfOk result (IsJustified (posed problem.now) nogoods.now) }
+{
+    // What a problem keeps is known by a look at it.
+    let _initial = problem.initial();
+    let count = nogoods.len();
+    let mut marks = first_marks(alloc, count)?;
+    let mut pieces = Vec::new(alloc);
+    for above in 0..count {
+        let place = count - 1 - above;
+        match justify_place(problem, nogoods, &mut marks, place)? {
+            Outcome::Passes(piece) => pieces.push(piece)?,
+            Outcome::Fails => return Ok(Justified::Failing(place)),
+        }
+    }
+    Ok(Justified::All(pieces))
+}
+
+/// Marks of this many places, of which the last is marked.
+fn first_marks(alloc: Global, count: usize) -> Result<Vec<bool>, Memory>
+    requires { 0 < count }
+    ensures count { IfOk result (λ marks. length marks.items ≡ count) }
+    ensures marks { IfOk result (λ marks. AreMarked marks.items (λ i. i == count - 1)) }
+{
+    let mut marks = vec![in alloc; false; count]?;
+    marks[count - 1] = true;
+    Ok(marks)
+}
+
+/// Justifies the nogood at the place, where it is marked, and marks those that its justification uses.
+fn justify_place(
+    problem: &Problem,
+    nogoods: &[Nogood],
+    marks: &mut Vec<bool>,
+    place: usize,
+) -> Result<Outcome, Memory>
+    requires problem { IsProblem problem.now }
+    requires place { place < length nogoods.now }
+    requires few { length nogoods.now < 2 ^ 32 }
+    requires nogoods { Each (AreOf problem.now.initial) nogoods.now }
+    requires marks { length marks.old.items ≡ length nogoods.now }
+    ensures count { length marks.new.items ≡ length marks.old.items }
+    ensures outcome { IfOk result (λ outcome. outcome ≡ outcome_of (slice_index_or marks.old.items place false) (justification (posed problem.now) nogoods.now place)) }
+    ensures marks { OnOk result (AreMarked marks.new.items (λ i. slice_index_or marks.old.items i false || (slice_index_or marks.old.items place false && list_any (nat_eq i) (uses_at (posed problem.now) nogoods.now place)))) }
+{
+    if !marks[place] {
+        return Ok(Outcome::Passes(None));
+    }
+    match justify(problem, nogoods, place)? {
+        Some(piece) => {
+            mark(marks, piece.uses.as_slice());
+            Ok(Outcome::Passes(Some(piece)))
+        }
+        None => Ok(Outcome::Fails),
+    }
+}
+
+/// Marks the places.
+fn mark(marks: &mut Vec<bool>, places: &[u32])
+    requires { Each (λ place. place < length marks.old.items) places.now }
+    ensures count { length marks.new.items ≡ length marks.old.items }
+    ensures marks { AreMarked marks.new.items (λ i. slice_index_or marks.old.items i false || list_any (nat_eq i) places.now) }
+{
+    for place in places {
+        mark_one(marks, *place as usize);
+    }
+}
+
+/// Marks the place.
+fn mark_one(marks: &mut Vec<bool>, place: usize)
+    requires { place < length marks.old.items }
+    ensures { marks.new.items ≡ slice_set marks.old.items place true }
+{
+    marks[place] = true;
+}
