@@ -29,7 +29,7 @@ impl Model for Scaffold {
 
 impl Scaffold {
     /// The scaffold of these nogoods, with the line and the number of each, and of this claim.
-    pub(crate) fn new(
+    pub fn new(
         nogoods: Vec<Nogood>,
         lines: Vec<u64>,
         ids: Vec<u64>,
