@@ -2,14 +2,13 @@
 use Rattle.std.proofs.Common.{◌≡◌, ℕ, zero, suc, ◌+◌, ◌-◌, ◌<◌, ◌≤◌, Bool, true, false, cond, List, [], ◌∷◌, ◌++◌, length, get_or, Option, Some, None, refl, sym, ◌∙◌, ap, subst, inl, inr, add-one, arith}
 use Rattle.std.specs.Prelude.{IfSome, is_some}
 use Rattle.std.proofs.Math.Nat.{le-suc_iff}
-use Rattle.std.proofs.lemmas.Bool.{both_ways, cases_Bool}
-use Rattle.std.proofs.lemmas.List.{append-nil, get_or_append_left, get_or_default, length-append}
+use Rattle.std.proofs.lemmas.Bool.{both_ways}
+use Rattle.std.proofs.lemmas.List.{get_or_append_left, get_or_default, length-append}
 use Rattle.std.proofs.Math.Seq.{get_or-append_seam}
 use Rattle.std.proofs.lemmas.Bool.Decides.{eqb_tells}
 use Rattle.dp_base.specs.Lists.{Among, Each}
 use Rattle.dp_base.proofs.Lists.{Each-among, Each-from_among}
 use Rattle.dp_domain.specs.Atoms.{Atomic}
-use Rattle.dp_domain.specs.States.{AreOf}
 use Rattle.dp_domain.specs.declared.verdict.Verdict.{Verdict}
 use Rattle.dp_engine.specs.declared.part_id.PartId.{PartId}
 use Rattle.dp_engine.specs.declared.part_id.PartId.TheVariants.{Model, Nogood}
@@ -18,7 +17,7 @@ use Rattle.dp_justify.specs.Replay.{Holds, HoldsBy, SpeaksOf}
 use Rattle.dp_justify.specs.declared.kept.Kept.{Kept}
 use Rattle.dp_justify.specs.declared.piece.Piece.{Piece}
 use Rattle.dp_parts.specs.Posed.{Posed}
-use Rattle.dp_parts.specs.Problems.{Csp, IsProblem, posed}
+use Rattle.dp_parts.specs.Problems.{Csp, posed}
 use Rattle.dp_scaffold.specs.Scaffolds.{IsScaffold, Learned, nogood_of}
 use Rattle.dp_writer.specs.Steps.{Step}
 use Rattle.dp_writer.specs.Written.{Adds, StandsFor, Written, conclusion, nogood}

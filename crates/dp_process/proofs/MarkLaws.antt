@@ -1,23 +1,18 @@
 -- Steps of the way down: the marks, and what is found of each place.
-use Rattle.std.proofs.Common.{◌≡◌, ℕ, zero, suc, ◌+◌, ◌-◌, ◌<◌, ◌≤◌, Bool, true, false, cond, ◌||◌, ◌&&◌, ◌==◌, ◌⊎◌, List, [], ◌∷◌, ◌++◌, length, get_or, set, Option, Some, None, take, refl, sym, ◌∙◌, ap, subst, inl, inr, add-one, arith}
+use Rattle.std.proofs.Common.{◌≡◌, ℕ, suc, ◌+◌, ◌-◌, ◌<◌, ◌≤◌, Bool, true, false, cond, ◌||◌, ◌&&◌, ◌==◌, List, [], ◌∷◌, ◌++◌, length, get_or, Option, Some, None, refl, sym, ◌∙◌, ap, subst, inl, inr, add-one, arith}
 use Rattle.std.specs.Prelude.{is_some, nat_eq}
 use Rattle.std.specs.List.{list_any}
-use Rattle.std.proofs.Math.Bool.{or-false, or-true, or_assoc, and-false}
 use Rattle.std.proofs.lemmas.Bool.{both_ways}
 use Rattle.std.proofs.lemmas.Bool.Decides.{eqb_tells}
-use Rattle.std.proofs.lemmas.Grind.{get_or-set_at}
-use Rattle.std.proofs.lemmas.List.{get_or-set_other, length-set, take_more}
-use Rattle.std.proofs.lemmas.List.Folds.{list_any-append}
-use Rattle.dp_base.specs.Lists.{Among, Each}
+use Rattle.dp_base.specs.Lists.{Each}
 use Rattle.dp_base.proofs.Lists.{Each-from_among}
 use Rattle.dp_domain.specs.Atoms.{Atomic}
 use Rattle.dp_domain.specs.States.{AreOf}
 use Rattle.dp_justify.specs.Pieces.{justification}
 use Rattle.dp_justify.specs.declared.piece.Piece.{Piece}
-use Rattle.dp_justify.proofs.JustifyLaws.{IsAsked}
 use Rattle.dp_parts.specs.Posed.{Posed}
 use Rattle.dp_parts.specs.Problems.{Csp, IsProblem, posed}
-use Rattle.dp_process.specs.Met.{EachMetFollows, Follows, IsFailing, is_met, last_of, met_by, uses_at, uses_in}
+use Rattle.dp_process.specs.Met.{EachMetFollows, Follows, IsFailing, is_met, last_of, met_by, uses_at}
 use Rattle.dp_process.specs.Marks.{AreJustified, AreMarked, outcome_of, piece_at, pieces_down}
 use Rattle.dp_process.specs.declared.met.Outcome.{Outcome}
 use Rattle.dp_process.specs.declared.met.Outcome.TheVariants.{Passes, Fails}

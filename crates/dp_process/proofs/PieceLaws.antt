@@ -1,9 +1,9 @@
 -- What the justification of a nogood has, and when there is one.
-use Rattle.std.proofs.Common.{◌≡◌, ℕ, ◌-◌, ◌<◌, ◌≤◌, Bool, true, false, ◌⊎◌, List, [], ◌∷◌, ◌++◌, length, Option, Some, None, take, refl, sym, ◌∙◌, ap, subst, inl, inr, arith}
+use Rattle.std.proofs.Common.{◌≡◌, ℕ, ◌<◌, ◌⊎◌, List, [], Option, Some, None, take, refl, sym, subst, inl, inr, arith}
 use Rattle.std.specs.Prelude.{is_some}
 use Rattle.std.specs.List.{flat_map}
 use Rattle.dp_base.specs.Lists.{Among, Each}
-use Rattle.dp_base.proofs.Lists.{Among-append_cases, Each-among}
+use Rattle.dp_base.proofs.Lists.{Each-among}
 use Rattle.dp_base.proofs.ScopeLaws.{among_in_order, among_in_order_out}
 use Rattle.dp_domain.specs.Atoms.{Atomic}
 use Rattle.dp_domain.specs.States.{AreOf, Domains}

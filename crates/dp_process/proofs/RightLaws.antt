@@ -1,5 +1,5 @@
 -- What accepted lines conclude is right of the problem.
-use Rattle.std.proofs.Common.{◌≡◌, ℕ, Option, Some, None, List, [], ◌∷◌, map, refl, sym, subst, ap, ◌∙◌}
+use Rattle.std.proofs.Common.{◌≡◌, ℕ, Option, Some, None, List, [], ◌∷◌, map, refl, subst, ap}
 use Rattle.std.specs.Prelude.{Result, Ok, Err, IfSome}
 use Rattle.dp_domain.specs.declared.verdict.Verdict.{Verdict}
 use Rattle.dp_lines.specs.declared.line.Line.{Line}

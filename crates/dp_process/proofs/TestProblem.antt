@@ -1,11 +1,17 @@
--- The problems of the tests are problems.
-use Rattle.std.proofs.Common.{◌≡◌, ℕ, zero, suc, ◌<◌, ◌≤◌, ◌^◌, List, [], ◌∷◌, length, codes, Some, None, slice_get, sym, subst, refl, arith}
+-- The problems of the tests are problems, and their scaffolds are scaffolds of them.
+use Rattle.std.proofs.Common.{◌≡◌, ℕ, zero, suc, ◌<◌, ◌≤◌, ◌^◌, List, [], ◌∷◌, ◌++◌, length, codes, Some, None, slice_get, sym, subst, refl, arith}
 use Rattle.dp_base.specs.Lists.{Each}
-use Rattle.dp_base.proofs.Lists.{Each-weaker}
+use Rattle.dp_base.proofs.Lists.{Each-append, Each-weaker}
+use Rattle.dp_domain.specs.Atoms.{Atomic}
 use Rattle.dp_domain.specs.Faces.{Covers}
+use Rattle.dp_domain.specs.States.{AreOf}
+use Rattle.dp_domain.specs.declared.verdict.Verdict.{Verdict}
+use Rattle.dp_domain.specs.declared.verdict.Verdict.TheVariants.{Unsat, Bound}
+use Rattle.dp_judge.specs.Logs.{IsOfGoal}
 use Rattle.dp_parts.specs.declared.part.Part.{Part}
 use Rattle.dp_parts.specs.Parts.{face_of}
 use Rattle.dp_parts.specs.Problems.{Csp, IsGoalOf, IsProblem}
+use Rattle.dp_scaffold.specs.Scaffolds.{IsScaffoldOf, Learned, nogood_of}
 
 abbrev names : List (List ℕ × ℕ)
 names = (codes "x", 0) ∷ (codes "y", 1) ∷ (codes "p", 2) ∷ (codes "q", 3) ∷ (codes "r", 4) ∷ (codes "obj", 5) ∷ []
@@ -42,4 +48,20 @@ six p on few isn iso isi isg =
       few_variables = omega arith;
       few_constraints = omega (arith, few);
       few_parts = Each-weaker (λ (ps : List Part). Each IsOnSix ps × (length ps ≡ 1)) (λ ps. length ps < 2 ^ 32) (λ ps h. omega (arith, h.1)) p.parts on;
+    })
+
+conclusion_on : (p : Csp) (claim : Verdict) → IsOfGoal p claim → AreOf p.initial (nogood_of claim)
+conclusion_on p Unsat goal = tt
+conclusion_on p (Bound a) goal = (goal.1, tt)
+
+pub scaffold_on : (p : Csp) (s : Learned) (ns more : List (List Atomic)) (lines ids : List ℕ) (claim : Verdict) (last : List Atomic)
+    → length p.initial ≡ 6 → IsOfGoal p claim → Each (λ n. Each (λ (a : Atomic). a.var < 6) n) ns → last ≡ nogood_of claim → more ≡ ns ++ last ∷ []
+    → s ≡ record { nogoods = more; lines = lines; ids = ids; claim = claim } → IsScaffoldOf p s
+scaffold_on p s ns more lines ids claim last six goal on conclusion pushed made =
+    subst (IsScaffoldOf p) (sym made)
+    (record {
+      nogoods = subst (Each (AreOf p.initial)) (sym pushed) (Each-append (AreOf p.initial) ns (last ∷ [])
+          (Each-weaker (λ n. Each (λ (a : Atomic). a.var < 6) n) (AreOf p.initial) (λ n h. subst (λ (k : ℕ). Each (λ (a : Atomic). a.var < k) n) (sym six) h) ns on)
+          (subst (AreOf p.initial) (sym conclusion) (conclusion_on p claim goal), tt));
+      claim = goal;
     })

@@ -1,16 +1,14 @@
 -- Steps of the writing: kept turns, nogoods, and the whole log.
-use Rattle.std.proofs.Common.{◌≡◌, ℕ, zero, suc, ◌+◌, ◌-◌, ◌<◌, ◌≤◌, Bool, true, false, cond, ◌⊎◌, List, [], ◌∷◌, ◌++◌, length, get_or, Option, Some, None, take, map, refl, sym, ◌∙◌, ap, subst, inl, inr, add-one, arith}
+use Rattle.std.proofs.Common.{◌≡◌, ℕ, ◌+◌, ◌<◌, ◌≤◌, List, [], ◌∷◌, ◌++◌, length, get_or, Option, Some, take, map, refl, sym, ◌∙◌, ap, subst, arith}
 use Rattle.std.specs.Prelude.{OnOk, Result, slice_get}
-use Rattle.std.specs.List.{flat_map}
 use Rattle.std.proofs.Math.ListN.{get_or-map}
 use Rattle.std.proofs.lemmas.Option.{get_or_from_slice_get}
 use Rattle.std.proofs.lemmas.Result.{on_ok_weaker}
 use Rattle.std.proofs.lemmas.Grind.{flat_map-append}
 use Rattle.std.proofs.lemmas.List.{append-nil, append_assoc, length-append, take_more}
-use Rattle.dp_base.specs.Lists.{Among, Each}
-use Rattle.dp_base.proofs.Lists.{Among-get_or, Each-append, Each-append_parts, Each-from_among, Each-get_or, Each-weaker}
+use Rattle.dp_base.specs.Lists.{Each}
+use Rattle.dp_base.proofs.Lists.{Each-append, Each-get_or, Each-weaker}
 use Rattle.dp_domain.specs.Atoms.{Atomic}
-use Rattle.dp_domain.specs.States.{AreOf}
 use Rattle.dp_engine.specs.declared.part_id.PartId.{PartId}
 use Rattle.dp_engine.specs.declared.part_id.PartId.TheVariants.{Model, Nogood}
 use Rattle.dp_justify.specs.Replay.{constraint_at}

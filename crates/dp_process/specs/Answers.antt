@@ -1,5 +1,5 @@
 -- What `process` answers.
-use Rattle.std.specs.Prelude.{◌≡◌, ℕ, Option, Some, Result, Ok, Err, slice_get}
+use Rattle.std.specs.Prelude.{◌≡◌, ℕ, Some, Result, Ok, Err, slice_get}
 use Rattle.dp_parts.specs.Problems.{Csp, posed}
 use Rattle.dp_scaffold.specs.Scaffolds.{Learned}
 use Rattle.dp_process.specs.Met.{IsFailing}

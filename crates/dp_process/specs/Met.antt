@@ -1,5 +1,5 @@
 -- Which nogoods of a scaffold are met, backwards from the conclusion, and which of them fails.
-use Rattle.std.specs.Prelude.{◌≡◌, ℕ, ◌-◌, ◌<◌, ◌==◌, zero, suc, Bool, true, false, ◌&&◌, ◌||◌, Option, Some, None, List, [], length, nat_eq, take}
+use Rattle.std.specs.Prelude.{◌≡◌, ℕ, ◌-◌, ◌<◌, ◌==◌, zero, suc, Bool, true, ◌&&◌, ◌||◌, Option, Some, None, List, [], length, nat_eq, take}
 use Rattle.std.specs.List.{list_any}
 use Rattle.dp_base.specs.Lists.{Among}
 use Rattle.dp_domain.specs.Atoms.{Atomic}

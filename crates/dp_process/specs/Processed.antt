@@ -1,5 +1,5 @@
 -- The processed log of a scaffold: for each met nogood in its order the kept turns of its run, then itself.
-use Rattle.std.specs.Prelude.{ℕ, ◌+◌, ◌-◌, zero, suc, Bool, true, false, if◌then◌else◌, Option, Some, None, List, [], ◌∷◌, ◌++◌, length, slice_get}
+use Rattle.std.specs.Prelude.{ℕ, ◌+◌, ◌-◌, zero, suc, if◌then◌else◌, Option, Some, None, List, [], ◌∷◌, ◌++◌, length, slice_get}
 use Rattle.std.specs.List.{flat_map}
 use Rattle.dp_domain.specs.Atoms.{Atomic}
 use Rattle.dp_engine.specs.declared.part_id.PartId.{PartId}

@@ -1,4 +1,4 @@
-use Rattle.std.proofs.Common.{◌≡◌, ℕ, ◌||◌, false, length, get_or, take}
+use Rattle.std.proofs.Common.{◌≡◌, ◌||◌, false, length, get_or, take}
 use Rattle.std.specs.Prelude.{nat_eq}
 use Rattle.std.specs.List.{list_any}
 use Rattle.dp_process.specs.Marks.{AreMarked}

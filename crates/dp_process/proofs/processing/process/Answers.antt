@@ -3,7 +3,7 @@ use Rattle.std.proofs.Common.{◌≡◌, List, ℕ, sym, subst}
 use Rattle.dp_judge.specs.Logs.{judged_log}
 use Rattle.dp_judge.specs.declared.answer.LogAnswer.TheVariants.{Accepted}
 use Rattle.dp_parts.specs.Problems.{posed}
-use Rattle.dp_replay.specs.Accepting.{AreShort, IsAccepted}
+use Rattle.dp_replay.specs.Accepting.{AreShort}
 use Rattle.dp_writer.specs.Steps.{lines}
 use Rattle.dp_process.specs.Processed.{log_of}
 use Rattle.dp_process.proofs.AcceptLaws.{log_accepted, text_accepted}

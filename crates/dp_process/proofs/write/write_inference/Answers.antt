@@ -1,5 +1,4 @@
 -- The label is that of the part at its place.
-use Rattle.std.proofs.Common.{◌+◌}
 use Rattle.dp_process.proofs.WritingLaws.{inference-added, label-here}
 use Rattle.dp_process.proofs.write.write_inference.Goals as goal
 
