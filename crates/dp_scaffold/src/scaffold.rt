@@ -29,12 +29,7 @@ impl Model for Scaffold {
 
 impl Scaffold {
     /// The scaffold of these nogoods, with the line and the number of each, and of this claim.
-    pub fn new(
-        nogoods: Vec<Nogood>,
-        lines: Vec<u64>,
-        ids: Vec<u64>,
-        claim: Verdict,
-    ) -> Scaffold
+    pub fn new(nogoods: Vec<Nogood>, lines: Vec<u64>, ids: Vec<u64>, claim: Verdict) -> Scaffold
         requires { IsScaffold (record { nogoods = nogoods.items; lines = lines.items; ids = ids.items; claim = claim }) }
         ensures { result ≡ record { nogoods = nogoods.items; lines = lines.items; ids = ids.items; claim = claim } }
     {
