@@ -6,7 +6,7 @@ use Rattle.dp_domain.specs.States.{Domains, LiesIn}
 use Rattle.dp_parts.specs.declared.goal.Goal.{Goal}
 use Rattle.dp_parts.specs.declared.goal.Goal.TheVariants.{Satisfy, Minimize, Maximize}
 use Rattle.dp_parts.specs.declared.part.Part.{Part}
-use Rattle.dp_base.specs.Names.{is_name}
+use Rattle.dp_base.specs.Names.{is_name, named}
 use Rattle.dp_parts.specs.Parts.{MeetsPart, face_of, label_of}
 use Rattle.dp_parts.specs.Posed.{Labelled, Posed}
 
@@ -18,6 +18,10 @@ pub record Csp : Type 0 where
   pub initial : Domains
   pub parts : List (List Part)
   pub goal : Goal
+
+-- each entry's name leads to its variable: no name stands twice
+abbrev pub LeadBack : List (List ℕ × ℕ) → Type 0
+LeadBack names = (place x : ℕ) (name : List ℕ) → slice_get names place ≡ Some (name, x) → named names name ≡ Some x
 
 -- the goal's variable is below the number of variables
 abbrev pub IsGoalOf : ℕ → Goal → Type 0

@@ -2,7 +2,7 @@
 
 ghost use Rattle.std.specs.Prelude.{◌≡◌, ℕ, ◌<◌, ◌+◌, Some, length, slice_get, option_copied};
 ghost use Rattle.dp_base.specs.Names.{named};
-ghost use Rattle.dp_parts.specs.Problems.{Csp, IsProblem};
+ghost use Rattle.dp_parts.specs.Problems.{Csp, IsProblem, LeadBack};
 
 use crate::{Goal, Part, Parts};
 use dp_domain::{Name, State, VarId};
@@ -58,6 +58,16 @@ impl Problem {
         ensures problem { IsProblem self.now }
     {
         self.names.get(name).copied()
+    }
+
+    /// The number of names, aliases included. Each leads to its own variable.
+    #[tactic(auto, using(crate::proofs::NameLaws::lead_back))]
+    pub fn name_count(&self) -> usize
+        ensures count { result ≡ length self.now.names }
+        ensures names { LeadBack self.now.names }
+        ensures problem { IsProblem self.now }
+    {
+        self.names.len()
     }
 
     /// A variable's own name.
