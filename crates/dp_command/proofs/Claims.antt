@@ -27,7 +27,7 @@ use Rattle.fz_sat.specs.Args.{term_of}
 use Rattle.fz_sat.specs.Satisfies.{Satisfies, goal_value, objective_of}
 use Rattle.dp_command.specs.Found.{IsProblemOf}
 use Rattle.dp_command.specs.Proved.{IsBest, IsSideOf, IsTrueOf}
-use Rattle.dp_command.specs.Replies.{claim_of}
+use Rattle.dp_command.specs.Named.{claim_of}
 
 least_op : (op : Op) → is_at_least op ≡ true → op ≡ Ge
 least_op Ge e = refl

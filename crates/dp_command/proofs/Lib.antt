@@ -1,3 +1,6 @@
 pub mod Claims
+pub mod Requests
 pub mod Checks
 pub mod Shows
+pub mod Processes
+pub mod Says

@@ -13,10 +13,10 @@ use Rattle.dp_show.specs.Showing.{after, refusal, shown_line}
 use Rattle.dp_show.specs.declared.shown.Refusal.{Refusal}
 use Rattle.dp_show.specs.declared.shown.Shown.{Shown}
 use Rattle.dp_desk.specs.Sight.{Sight}
-use Rattle.dp_command.proofs.Checks.{no_show}
+use Rattle.dp_command.proofs.Requests.{show_is_no_check, show_is_no_process}
 use Rattle.dp_command.specs.Due.{LeavesModel}
 use Rattle.dp_command.specs.Texts.{shown_status}
-use Rattle.dp_command.specs.Words.{Request, Check, Show, IsShow, words_of}
+use Rattle.dp_command.specs.Words.{Request, Check, Show, Process, IsShow, words_of}
 
 -- what follows a line that is not refused is all shown where all is
 later_shown : (why : Option Why) (number : ℕ) (line : Line) (text : List ℕ) (later : Shown) → (shown_unless why number line text later).refusal ≡ None → later.refusal ≡ None
@@ -47,5 +47,6 @@ shown_ended shown text now e end status =
 
 -- words that ask to show a log leave the model as it was
 pub model_left : (request : Request) (words : List (List ℕ)) (was now : Sight) → words ≡ words_of request → LeavesModel request was now → IsShow words → now.model ≡ was.model
-model_left (Check model log) words was now e h (other, show) = absurd (no_show words other (model, log, e) show)
+model_left (Check model log) words was now e h (other, show) = absurd (show_is_no_check words other (model, log, e) show)
 model_left (Show log) words was now e h show = h
+model_left (Process model scaffold out) words was now e h (other, show) = absurd (show_is_no_process words other (model, scaffold, out, e) show)

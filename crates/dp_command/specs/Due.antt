@@ -1,38 +1,78 @@
--- What the answer has to hold, and what a run leaves of a desk.
-use Rattle.std.specs.Prelude.{◌≡◌, ◌⊎◌, ℕ, List, Option}
-use Rattle.dp_desk.specs.Channel.{Channel, Files, Grows, GrowsByPart, IsAtEnd}
+-- What the answer and the file have to hold, and what a run leaves of a desk.
+use Rattle.std.specs.Prelude.{◌≡◌, ◌⊎◌, ◌++◌, ℕ, List, Option, Some, None}
+use Rattle.dp_desk.specs.Channel.{Channel, Files, Grows, GrowsByPart, IsAtEnd, Shut, Hidden, Shown}
 use Rattle.dp_desk.specs.Causes.{Rose}
 use Rattle.dp_desk.specs.Sight.{Sight}
 use Rattle.dp_command.specs.Replies.{Replies}
-use Rattle.dp_command.specs.Texts.{text_of, status_of, read_fault}
-use Rattle.dp_command.specs.Words.{Request, Check, Show, words_of}
+use Rattle.dp_command.specs.Texts.{file_of, text_of, status_of, read_fault}
+use Rattle.dp_command.specs.Words.{Request, Check, Show, Process, words_of}
 use Rattle.dp_command.specs.declared.reply.Reply.{Reply}
 use Rattle.dp_command.specs.declared.reply.Reply.TheVariants.{NoCommand, ModelRefused}
 
--- the status is that of a reply that belongs to the words and the inputs, and its text was written
-pub record Said (names : Option Files) (words : List (List ℕ)) (status : ℕ) (was now : Channel) : Type 0 where
+-- ---- a file
+
+-- the output is open, and holds this where it is told
+abbrev pub Holds : Channel → List ℕ → Type 0
+Holds Shut text = ⊥
+Holds Hidden text = Unit {0}
+Holds (Shown bytes) text = bytes ≡ text
+
+-- the output is open, and holds a front of this where it is told
+abbrev pub HoldsFront : Channel → List ℕ → Type 0
+HoldsFront Shut text = ⊥
+HoldsFront Hidden text = Unit {0}
+HoldsFront (Shown bytes) text = (rest : List ℕ) × (text ≡ bytes ++ rest)
+
+-- where there is a text for it, the output holds that; else it is as it was
+abbrev pub IsFiled : Option (List ℕ) → Channel → Channel → Type 0
+IsFiled None was now = now ≡ was
+IsFiled (Some text) was now = Holds now text
+
+-- there is a text for the output, which was not opened or holds a front of that
+abbrev pub IsCut : Option (List ℕ) → Channel → Channel → Type 0
+IsCut None was now = ⊥
+IsCut (Some text) was now = (now ≡ was) ⊎ HoldsFront now text
+
+-- the file, if any, was written, then the text as the answer
+pub record Writes (file : Option (List ℕ)) (text : List ℕ) (was now : Sight) : Type 0 where
+  pub filed : IsFiled file was.first now.first
+  pub told : Grows was.answer now.answer text
+
+-- a front of the text was written as the answer, and nothing where not all of the file was written
+pub record WritesPart (file : Option (List ℕ)) (text : List ℕ) (was now : Sight) : Type 0 where
+  pub part : GrowsByPart was.answer now.answer text
+  pub filed : IsFiled file was.first now.first ⊎ (IsCut file was.first now.first × (now.answer ≡ was.answer))
+
+-- ---- what is due
+
+-- the status is that of a reply that belongs to the words and the inputs, and its file and its text were written
+pub record Said (names : Option Files) (words : List (List ℕ)) (status : ℕ) (was now : Sight) : Type 0 where
   pub reply : Reply
   pub due : Replies names words reply
   pub stands : status ≡ status_of reply
-  pub text : Grows was now (text_of reply)
+  pub written : Writes (file_of reply) (text_of reply) was now
 
--- the text of a reply that belongs to the words and the inputs, or that of a read fault where there was one
-abbrev pub IsDue : Option Files → List (List ℕ) → Type 0 → List ℕ → Type 0
-IsDue names words fault text = ((reply : Reply) × Replies names words reply × (text ≡ text_of reply)) ⊎ (fault × (text ≡ read_fault))
+-- the file and the text of a reply that belongs to the words and the inputs, or the text of a read fault where there was one
+abbrev pub IsDue : Option Files → List (List ℕ) → Type 0 → Option (List ℕ) → List ℕ → Type 0
+IsDue names words fault file text =
+    ((reply : Reply) × Replies names words reply × (file ≡ file_of reply) × (text ≡ text_of reply)) ⊎ (fault × (file ≡ None) × (text ≡ read_fault))
 
--- a front of the text that is due was written
-pub record SaidPart (names : Option Files) (words : List (List ℕ)) (fault : Type 0) (was now : Channel) : Type 0 where
+-- fronts of the file and the text that are due were written
+pub record SaidPart (names : Option Files) (words : List (List ℕ)) (fault : Type 0) (was now : Sight) : Type 0 where
+  pub file : Option (List ℕ)
   pub text : List ℕ
-  pub due : IsDue names words fault text
-  pub part : GrowsByPart was now text
+  pub due : IsDue names words fault file text
+  pub written : WritesPart file text was now
+
+-- ---- a desk
 
 -- all but the inputs is as it was
 abbrev pub ChangesInputs : Sight → Sight → Type 0
 ChangesInputs was now = now ≡ record was { model = now.model; log = now.log }
 
--- all but the inputs and the answer is as it was
-abbrev pub ChangesAnswer : Sight → Sight → Type 0
-ChangesAnswer was now = now ≡ record was { model = now.model; log = now.log; answer = now.answer }
+-- all but the inputs, the answer and the first file is as it was
+abbrev pub ChangesOutputs : Sight → Sight → Type 0
+ChangesOutputs was now = now ≡ record was { model = now.model; log = now.log; answer = now.answer; first = now.first }
 
 -- the inputs that a refusal of the words or of the model does not need are as they were
 abbrev pub LeavesUnread : Reply → Sight → Sight → Type 0
@@ -44,11 +84,13 @@ LeavesUnread reply was now = Unit {0}
 abbrev pub LeavesModel : Request → Sight → Sight → Type 0
 LeavesModel (Check model log) was now = Unit {0}
 LeavesModel (Show log) was now = now.model ≡ was.model
+LeavesModel (Process model scaffold out) was now = Unit {0}
 
 -- each input that is asked for was read to its end
 abbrev pub AreAtEnd : Request → Sight → Type 0
 AreAtEnd (Check model log) now = IsAtEnd now.model × IsAtEnd now.log
 AreAtEnd (Show log) now = IsAtEnd now.log
+AreAtEnd (Process model scaffold out) now = IsAtEnd now.model × IsAtEnd now.log
 
 -- the words are a command, and each input that it asks for was read to its end
 pub record ReadsToEnd (words : List (List ℕ)) (now : Sight) : Type 0 where

@@ -10,9 +10,10 @@ use Rattle.fz_items.specs.Answers.{model_text}
 use Rattle.fz_model.specs.Models.{Plan}
 use Rattle.dp_command.specs.Inputs.{IsRead}
 use Rattle.dp_command.specs.Proved.{IsTrueOf}
-use Rattle.dp_command.specs.Replies.{claim_of, most_of_model}
-use Rattle.dp_command.specs.declared.check.Found.{Found}
-use Rattle.dp_command.specs.declared.check.Found.TheVariants.{Problem, Refusal}
+use Rattle.dp_command.specs.Named.{claim_of}
+use Rattle.dp_command.specs.Replies.{most_of_model}
+use Rattle.dp_command.specs.declared.finding.Found.{Found}
+use Rattle.dp_command.specs.declared.finding.Found.TheVariants.{Problem, Refusal}
 
 -- the problem is the model's, and what is right of it, as a conclusion on the goal, is true of the model
 pub record IsProblemOf (m : Plan) (p : Csp) : Type 0 where

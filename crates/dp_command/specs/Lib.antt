@@ -1,6 +1,8 @@
 pub mod Asked
 pub mod Due
 pub mod Inputs
+pub mod Named
+pub mod Outcomes
 pub mod Replies
 pub mod Texts
 pub mod Words

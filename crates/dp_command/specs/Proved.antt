@@ -1,4 +1,4 @@
--- What an accepted log proves of the model, in words that know no parts and no steps.
+-- What an accepted log proves of the model, in words that know no parts and no steps; and what a processed log is.
 use Rattle.std.specs.Prelude.{◌≡◌, ℕ, true, Option, Some, List, ℤ}
 use Rattle.dp_desk.specs.Channel.{Channel, Files, Grows}
 use Rattle.dp_domain.specs.Atoms.{compares}
@@ -8,8 +8,23 @@ use Rattle.fz_model.specs.Models.{Plan}
 use Rattle.fz_model.specs.declared.model.ModelGoal.{ModelGoal}
 use Rattle.fz_model.specs.declared.model.ModelGoal.TheVariants.{Satisfy, Minimize, Maximize}
 use Rattle.fz_sat.specs.Satisfies.{Satisfies, objective_of}
-use Rattle.dp_command.specs.Replies.{IsGiven}
+use Rattle.dp_checker.specs.Kept.{IsRight}
+use Rattle.dp_judge.specs.Logs.{judged_log}
+use Rattle.dp_judge.specs.declared.answer.LogAnswer.TheVariants.{Accepted as AcceptedLog}
+use Rattle.dp_lower.specs.Problem.{problem_of}
+use Rattle.dp_parts.specs.Problems.{posed}
+use Rattle.dp_process.specs.Met.{EachMetFollows}
+use Rattle.dp_process.specs.Processed.{log_of}
+use Rattle.dp_replay.specs.Accepting.{AreShort, IsAccepted}
+use Rattle.dp_scaffold.specs.Scaffolds.{Learned}
+use Rattle.dp_scaffold.specs.Texts.{scaffold_text}
+use Rattle.dp_scaffold.specs.declared.answer.ScaffoldAnswer.TheVariants.{Given}
+use Rattle.dp_writer.specs.Steps as steps
+use Rattle.dp_command.specs.Due.{Holds}
+use Rattle.dp_command.specs.Inputs.{IsRead}
+use Rattle.dp_command.specs.Replies.{IsGiven, most_of_log}
 use Rattle.dp_command.specs.Texts.{text_of}
+use Rattle.dp_command.specs.Words.{Check, Process, words_of}
 use Rattle.dp_command.specs.declared.reply.Claim.{Claim}
 use Rattle.dp_command.specs.declared.reply.Claim.TheVariants.{Unsat, Bound}
 use Rattle.dp_command.specs.declared.reply.Reply.{Reply}
@@ -37,9 +52,11 @@ IsTrueOf m (Bound name op value) = IsBest m op value
 
 -- the words ask for a check of a model, and the claim is true of the model that its text spells
 pub record IsProved (names : Option Files) (words : List (List ℕ)) (claim : Claim) : Type 0 where
+  pub model : List ℕ
   pub log : List ℕ
+  pub asked : words ≡ words_of (Check model log)
   pub m : Plan
-  pub given : IsGiven names words log m
+  pub given : IsGiven names model m
   pub holds : IsTrueOf m claim
 
 -- a reply that accepts says what is true
@@ -52,3 +69,23 @@ pub record SaysTruth (names : Option Files) (words : List (List ℕ)) (was now :
   pub claim : Claim
   pub proved : IsProved names words claim
   pub text : Grows was now (text_of (Accepted claim))
+
+-- The words ask to process a scaffold of a model; what is read of it says this scaffold, of which each nogood that its
+-- claim rests on follows. The file holds its processed log: no test of a check refuses a line of it, and it concludes the
+-- claim, which is right of the model's problem; so a check of its bytes accepts, where no line is too long.
+pub record FilesProof (names : Option Files) (words : List (List ℕ)) (now : Channel) : Type 0 where
+  pub model : List ℕ
+  pub scaffold : List ℕ
+  pub out : List ℕ
+  pub asked : words ≡ words_of (Process model scaffold out)
+  pub m : Plan
+  pub given : IsGiven names model m
+  pub lines : List ℕ
+  pub read : IsRead most_of_log names scaffold lines
+  pub learned : Learned
+  pub says : scaffold_text (posed (problem_of m)) lines ≡ Given learned
+  pub follows : EachMetFollows (posed (problem_of m)) learned.nogoods
+  pub written : Holds now (steps.text_of (log_of (problem_of m) learned))
+  pub accepted : IsAccepted (posed (problem_of m)) (steps.lines (log_of (problem_of m) learned)) learned.claim
+  pub checked : AreShort (steps.lines (log_of (problem_of m) learned)) (steps.text_of (log_of (problem_of m) learned)) → judged_log (posed (problem_of m)) (steps.text_of (log_of (problem_of m) learned)) ≡ AcceptedLog learned.claim
+  pub right : IsRight (problem_of m) learned.claim

@@ -7,16 +7,23 @@ use Rattle.dp_checker.specs.declared.refusal.Why.TheVariants.{AfterConclusion, U
 use Rattle.dp_lines.specs.Spelling.{atom_text, signed}
 use Rattle.dp_lines.specs.declared.refusal.LineRefusal.{LineRefusal}
 use Rattle.dp_lines.specs.declared.refusal.LineRefusal.TheVariants as unread
+use Rattle.dp_scaffold.specs.declared.refusal.GatherWhy.{GatherWhy}
+use Rattle.dp_scaffold.specs.declared.refusal.GatherWhy.TheVariants as gather
+use Rattle.dp_scaffold.specs.declared.refusal.ScaffoldRefusal.{ScaffoldRefusal}
 use Rattle.dp_show.specs.declared.shown.Refusal.{Refusal}
 use Rattle.dp_show.specs.declared.shown.Refusal.TheVariants as show
 use Rattle.dp_show.specs.declared.shown.Shown.{Shown}
 use Rattle.fz_items.specs.Answers.{place_of}
 use Rattle.fz_items.specs.declared.refusal.ModelRefusal.{ModelRefusal}
 use Rattle.fz_items.specs.declared.refusal.ModelRefusal.TheVariants as model
+use Rattle.dp_command.specs.declared.outcome.Done.{Done}
+use Rattle.dp_command.specs.declared.outcome.Failing.{Failing}
+use Rattle.dp_command.specs.declared.outcome.Outcome.{Outcome}
+use Rattle.dp_command.specs.declared.outcome.Outcome.TheVariants as outcome
 use Rattle.dp_command.specs.declared.reply.Claim.{Claim}
 use Rattle.dp_command.specs.declared.reply.Claim.TheVariants.{Unsat, Bound}
 use Rattle.dp_command.specs.declared.reply.Reply.{Reply}
-use Rattle.dp_command.specs.declared.reply.Reply.TheVariants.{NoCommand, ModelRefused, Accepted, Unread, Refused, Shown as ShownLog}
+use Rattle.dp_command.specs.declared.reply.Reply.TheVariants.{NoCommand, ModelRefused, Accepted, Unread, Refused, Shown as ShownLog, Processed}
 
 -- a line of text, with its end
 abbrev pub line : List ℕ → List ℕ
@@ -105,6 +112,58 @@ abbrev pub claim_words : Claim → List ℕ
 claim_words Unsat = codes "UNSAT"
 claim_words (Bound name op value) = atom_text name op value
 
+-- ---- scaffolds
+
+-- the name of a test that refuses a line of a scaffold, with its number where it has one
+abbrev pub gather_words : GatherWhy → List ℕ
+gather_words gather.AfterConclusion = codes "AfterConclusion"
+gather_words gather.UnknownVar = codes "UnknownVar"
+gather_words gather.AtomTwice = codes "AtomTwice"
+gather_words (gather.UnknownAtom literal) = codes "UnknownAtom " ++ signed literal
+gather_words gather.StepTwice = codes "StepTwice"
+gather_words gather.NoGoal = codes "NoGoal"
+gather_words gather.WrongBound = codes "WrongBound"
+gather_words gather.NoConclusion = codes "NoConclusion"
+gather_words gather.TooMany = codes "TooMany"
+
+-- the text where a test refuses a line of a scaffold, which follows its refusal
+abbrev pub scaffold_refused : ScaffoldRefusal → Option (List ℕ) → List ℕ
+scaffold_refused refusal text = line (refused_words (gather_words refusal.why) refusal.line) ++ told text
+
+-- the name of the refusal of a nogood that does not follow, with its number
+abbrev pub not_following : ℕ → List ℕ
+not_following id = codes "NotFollowing " ++ decimal id
+
+-- the text where a nogood does not follow, which is told behind
+abbrev pub failing_text : Failing → List ℕ
+failing_text failing = line (refused_words (not_following failing.id) failing.line) ++ failing.text
+
+-- the line that counts what was done
+abbrev pub done_text : Done → List ℕ
+done_text done =
+    line (codes "processed: " ++ decimal done.kept ++ codes " of " ++ decimal done.nogoods ++ codes " nogoods kept, " ++ decimal done.steps ++ codes " steps")
+
+-- the text of what becomes of a scaffold
+abbrev pub outcome_text : Outcome → List ℕ
+outcome_text (outcome.Done done) = done_text done
+outcome_text (outcome.Unread refusal) = unread_text refusal
+outcome_text (outcome.Refused refusal text) = scaffold_refused refusal text
+outcome_text (outcome.NotFollowing failing) = failing_text failing
+
+-- its status: whether it is processed
+abbrev pub outcome_status : Outcome → ℕ
+outcome_status (outcome.Done done) = 0
+outcome_status (outcome.Unread refusal) = 1
+outcome_status (outcome.Refused refusal text) = 1
+outcome_status (outcome.NotFollowing failing) = 1
+
+-- what it writes to a file, if anything
+abbrev pub outcome_file : Outcome → Option (List ℕ)
+outcome_file (outcome.Done done) = Some done.text
+outcome_file (outcome.Unread refusal) = None
+outcome_file (outcome.Refused refusal text) = None
+outcome_file (outcome.NotFollowing failing) = None
+
 -- ---- replies
 
 -- the text of a reply
@@ -115,6 +174,7 @@ text_of (Accepted claim) = line (codes "accepted: " ++ claim_words claim)
 text_of (Unread refusal) = unread_text refusal
 text_of (Refused refusal text) = refused_text refusal text
 text_of (ShownLog shown) = shown_text shown
+text_of (Processed o) = outcome_text o
 
 -- the status of a log that is shown: whether all of it is
 abbrev pub shown_status : Option Refusal → ℕ
@@ -129,6 +189,17 @@ status_of (Accepted claim) = 0
 status_of (Unread refusal) = 1
 status_of (Refused refusal text) = 1
 status_of (ShownLog shown) = shown_status shown.refusal
+status_of (Processed o) = outcome_status o
+
+-- what a reply writes to a file, if anything
+abbrev pub file_of : Reply → Option (List ℕ)
+file_of NoCommand = None
+file_of (ModelRefused refusal) = None
+file_of (Accepted claim) = None
+file_of (Unread refusal) = None
+file_of (Refused refusal text) = None
+file_of (ShownLog shown) = None
+file_of (Processed o) = outcome_file o
 
 -- the text where an input could not be read
 abbrev pub read_fault : List ℕ

@@ -2,6 +2,10 @@
 #![tactic(auto)]
 
 mod check;
+mod finding;
+mod naming;
+mod outcome;
+mod process;
 mod program;
 mod reading;
 mod reply;

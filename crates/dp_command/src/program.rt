@@ -1,19 +1,20 @@
 // The top call.
 
-ghost use Rattle.std.specs.Prelude.{◌≡◌, ◌<◌, ◌≤◌, map, IfOk};
+ghost use Rattle.std.specs.Prelude.{◌≡◌, ◌≢◌, ◌<◌, ◌≤◌, map, IfOk};
 ghost use Rattle.dp_desk.specs.Channel.{Grows};
 ghost use Rattle.dp_desk.specs.Causes.{Rose};
 ghost use Rattle.dp_command.specs.Asked.{asked};
-ghost use Rattle.dp_command.specs.Words.{IsCheck, IsShow, words_of};
+ghost use Rattle.dp_command.specs.Words.{IsCheck, IsProcess, IsShow, words_of};
 ghost use Rattle.dp_command.specs.Inputs.{HasReadCause};
-ghost use Rattle.dp_command.specs.Due.{Said, SaidPart, ChangesInputs, ChangesAnswer, LeavesModel, LeavesUnread, AreAtEnd, ReadsToEnd};
-ghost use Rattle.dp_command.specs.Proved.{IsSound, SaysTruth};
+ghost use Rattle.dp_command.specs.Due.{Said, SaidPart, ChangesInputs, ChangesOutputs, LeavesModel, LeavesUnread, AreAtEnd, ReadsToEnd};
+ghost use Rattle.dp_command.specs.Proved.{FilesProof, IsSound, SaysTruth};
 ghost use Rattle.dp_command.specs.Replies.{Replies};
 ghost use Rattle.dp_command.specs.Texts.{read_fault, status_of};
 
 use crate::check::check;
+use crate::process::process;
 use crate::reply::Reply;
-use crate::saying::say;
+use crate::saying::{hand_over, say};
 use crate::show::show;
 use crate::{Command, Trouble, read_words};
 use dp_base::Memory;
@@ -28,20 +29,28 @@ const OUT_OF_MEMORY: u8 = 7;
 
 /// Does what the words ask for over a desk, and answers the status that the program ends with.
 ///
-/// The words are judged first, then the model, then the log; a log is shown without a model. Status 0 comes where the
-/// log is accepted or shown to its end, 1 where it is refused, 2 where the words are no command, 3 where the model is
-/// refused, 5 and 6 where an input and where an output failed, and 7 for want of memory. At each status but 7 a text is
-/// written as the answer.
+/// The words are judged first, then the model, then the log or the scaffold; a log is shown without a model. Status 0
+/// comes where the log is accepted or shown to its end, or the scaffold is processed, 1 where it is refused, 2 where the
+/// words are no command, 3 where the model is refused, 5 and 6 where an input and where an output failed, and 7 for want
+/// of memory. At each status but 7 a text is written as the answer. The processed log is opened and written only where
+/// nothing but a write can fail, before the answer.
 pub fn run<D: Desk>(alloc: Global, words: &[&str], desk: &mut D) -> u8
-    // The status and the text are those of the reply that belongs to the words and the inputs.
-    ensures answered { let texts = map (λ w. w.now) words.now in result ≤ 4 → Said (D.sight desk.old).names texts result (D.sight desk.old).answer (D.sight desk.new).answer }
+    // The status, the file and the text are those of the reply that belongs to the words and the inputs.
+    ensures answered { let texts = map (λ w. w.now) words.now in result ≤ 4 → Said (D.sight desk.old).names texts result (D.sight desk.old) (D.sight desk.new) }
 
     // What a check writes of an accepted log is true of the model, in the meaning of its constraints.
     ensures sound { let texts = map (λ w. w.now) words.now in result ≡ 0 → IsCheck texts → SaysTruth (D.sight desk.old).names texts (D.sight desk.old).answer (D.sight desk.new).answer }
+
+    // What stands in the file of a processed scaffold is its processed log, and each nogood that its claim rests on follows.
+    ensures processed { let texts = map (λ w. w.now) words.now in result ≡ 0 → IsProcess texts → FilesProof (D.sight desk.old).names texts (D.sight desk.new).first }
     ensures ended { let texts = map (λ w. w.now) words.now in result ≡ 0 → ReadsToEnd texts (D.sight desk.new) }
     ensures unread_words { result ≡ 2 → (D.sight desk.new).model ≡ (D.sight desk.old).model × ((D.sight desk.new).log ≡ (D.sight desk.old).log) }
     ensures unread_log { result ≡ 3 → (D.sight desk.new).log ≡ (D.sight desk.old).log }
     ensures unread_model { let texts = map (λ w. w.now) words.now in IsShow texts → (D.sight desk.new).model ≡ (D.sight desk.old).model }
+
+    // The file is opened only to process a scaffold, and only where that is done.
+    ensures unfiled_words { let texts = map (λ w. w.now) words.now in (IsProcess texts → ⊥) → (D.sight desk.new).first ≡ (D.sight desk.old).first }
+    ensures unfiled { result ≢ 0 → result ≢ 6 → (D.sight desk.new).first ≡ (D.sight desk.old).first }
 
     // Faults come only where an input or an output failed, and are never hidden.
     ensures read_fault { result ≡ 5 → Rose (D.faults_in desk.old) (D.faults_in desk.new) × Grows (D.sight desk.old).answer (D.sight desk.new).answer read_fault }
@@ -51,15 +60,15 @@ pub fn run<D: Desk>(alloc: Global, words: &[&str], desk: &mut D) -> u8
     ensures in_counted { D.faults_in desk.old ≤ D.faults_in desk.new }
     ensures out_counted { D.faults_out desk.old ≤ D.faults_out desk.new }
 
-    // After a failed write a front of what was due stands there, and nothing more.
-    ensures front { let texts = map (λ w. w.now) words.now in result ≡ 6 → SaidPart (D.sight desk.old).names texts (Rose (D.faults_in desk.old) (D.faults_in desk.new)) (D.sight desk.old).answer (D.sight desk.new).answer }
+    // After a failed write fronts of what was due stand there, and nothing more.
+    ensures front { let texts = map (λ w. w.now) words.now in result ≡ 6 → SaidPart (D.sight desk.old).names texts (Rose (D.faults_in desk.old) (D.faults_in desk.new)) (D.sight desk.old) (D.sight desk.new) }
     ensures nothing { result ≡ 7 → (D.sight desk.new).answer ≡ (D.sight desk.old).answer }
-    ensures rest { ChangesAnswer (D.sight desk.old) (D.sight desk.new) }
+    ensures rest { ChangesOutputs (D.sight desk.old) (D.sight desk.new) }
     ensures known { result ≤ 7 }
 {
     match reply_to(alloc, words, desk) {
         Ok(reply) => match reply.text(alloc) {
-            Ok(text) => say(desk, text.as_slice(), reply.status()),
+            Ok(text) => hand_over(desk, &reply, text.as_slice()),
             Err(Memory) => OUT_OF_MEMORY,
         },
         Err(Trouble::ReadFault) => say(desk, b"read fault\n", READ_FAULT),
@@ -98,5 +107,10 @@ fn obey<D: Desk>(alloc: Global, command: Command<'_>, desk: &mut D) -> Result<Re
     match command {
         Command::Check { model, log } => check(alloc, model, log, desk),
         Command::Show { log } => show(alloc, log, desk),
+        Command::Process {
+            model,
+            scaffold,
+            out,
+        } => process(alloc, model, scaffold, out, desk),
     }
 }

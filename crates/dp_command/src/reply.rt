@@ -5,7 +5,9 @@ ghost use Rattle.std.specs.Fmt.{decimal};
 ghost use Rattle.fz_items.specs.Answers.{place_of};
 ghost use Rattle.dp_command.specs.Texts as texts;
 ghost use Rattle.dp_command.specs.declared.reply.Reply.TheVariants.{Accepted};
+ghost use Rattle.std.specs.Option.{option_map};
 
+use crate::outcome::{Done, Outcome};
 use dp_base::{Memory, Name, Text};
 use dp_checker::{StepRefusal, Why};
 use dp_domain::Op;
@@ -38,6 +40,8 @@ pub(crate) enum Reply {
     Refused(StepRefusal, Option<Text>),
     /// This is shown of the log.
     Shown(Shown),
+    /// This becomes of the scaffold.
+    Processed(Outcome),
 }
 
 impl Reply {
@@ -51,6 +55,7 @@ impl Reply {
             Reply::Accepted(_) => 0,
             Reply::Unread(_) | Reply::Refused(..) => 1,
             Reply::Shown(shown) => shown_status(shown),
+            Reply::Processed(outcome) => outcome.status(),
         }
     }
 
@@ -65,6 +70,22 @@ impl Reply {
             Reply::Unread(refusal) => unread(alloc, *refusal),
             Reply::Refused(refusal, text) => refused(alloc, *refusal, text),
             Reply::Shown(shown) => shown_text(alloc, shown),
+            Reply::Processed(outcome) => outcome.text(alloc),
+        }
+    }
+
+    /// What is to be written to a file.
+    pub(crate) fn file(&self) -> Option<&Done>
+        ensures { option_map (λ done. done.now.text) result ≡ texts.file_of self.now }
+    {
+        match self {
+            Reply::NoCommand
+            | Reply::ModelRefused(_)
+            | Reply::Accepted(_)
+            | Reply::Unread(_)
+            | Reply::Refused(..)
+            | Reply::Shown(_) => None,
+            Reply::Processed(outcome) => outcome.file(),
         }
     }
 }
@@ -137,16 +158,26 @@ fn accepted(alloc: Global, claim: &Claim) -> Result<Vec<u8>, Memory>
     ensures { IfOk result (λ text. text.items ≡ texts.text_of (Accepted claim.now)) }
 {
     let mut text = b"accepted: ".to_vec(alloc)?;
-    match claim {
-        Claim::Unsat => text.extend_from_slice(b"UNSAT")?,
-        Claim::Bound { name, op, value } => push_atom_text(&mut text, name.bytes(), *op, *value)?,
-    }
+    push_claim(&mut text, claim)?;
     text.push(b'\n')?;
     Ok(text)
 }
 
-// The line that tells a line that could not be read.
-fn unread(alloc: Global, refusal: LineRefusal) -> Result<Vec<u8>, Memory>
+/// Appends what is concluded.
+pub(crate) fn push_claim(text: &mut Vec<u8>, claim: &Claim) -> Result<(), Memory>
+    ensures { OnOk result (text.new.items ≡ text.old.items ++ texts.claim_words claim.now) }
+{
+    match claim {
+        Claim::Unsat => {
+            text.extend_from_slice(b"UNSAT")?;
+            Ok(())
+        }
+        Claim::Bound { name, op, value } => push_atom_text(text, name.bytes(), *op, *value),
+    }
+}
+
+/// The line that tells a line that could not be read.
+pub(crate) fn unread(alloc: Global, refusal: LineRefusal) -> Result<Vec<u8>, Memory>
     ensures { IfOk result (λ text. text.items ≡ texts.unread_text refusal) }
 {
     match refusal {
@@ -165,7 +196,8 @@ fn refused_at(alloc: Global, name: &str, line: u64, byte: u64) -> Result<Vec<u8>
     Ok(text.into_bytes())
 }
 
-fn refused_line(alloc: Global, name: &str, line: u64) -> Result<Vec<u8>, Memory>
+/// The line that tells a refusal by its name, and the number of the refused line.
+pub(crate) fn refused_line(alloc: Global, name: &str, line: u64) -> Result<Vec<u8>, Memory>
     ensures { IfOk result (λ text. text.items ≡ texts.line (texts.refused_words name.now line)) }
 {
     let text = format!(in alloc; "refused: {name} at line {line}\n")?;

@@ -5,7 +5,7 @@ use std::alloc::{AllocError, Global};
 use std::test::Fail;
 
 // Two inequalities that no x and y meet together.
-const MODEL: &str =
+pub(crate) const MODEL: &str =
     "var 0..3: x;\nvar 0..3: y;\nconstraint int_lin_le([1,1],[x,y],2);\nconstraint int_lin_le([-1,-1],[x,y],-3);\nsolve satisfy;\n";
 
 // A log that proves it, up to its line 14.
@@ -15,10 +15,10 @@ pub(crate) const STEPS: &str =
 const ACCEPTED: &str = "accepted: UNSAT\n";
 
 // A model whose least value is 7.
-const MINIMUM: &str = "var 0..9: obj;\nconstraint int_le(7,obj);\nsolve minimize obj;\n";
+pub(crate) const MINIMUM: &str = "var 0..9: obj;\nconstraint int_le(7,obj);\nsolve minimize obj;\n";
 
 // A desk with a model and a log of these names.
-fn desk_of(
+pub(crate) fn desk_of(
     alloc: Global,
     model: &str,
     log: &[u8],
@@ -224,6 +224,15 @@ fn words_are_commands(rt: HostRuntime) -> Result<(), Fail> {
         Some(Command::Show { log: "show" })
     );
     assert_eq!(rt; read_words(&["show", "m", "l"]), None);
+    let process = Command::Process {
+        model: "process",
+        scaffold: "s",
+        out: "m",
+    };
+    assert_eq!(rt;
+        read_words(&["process", "process", "s", "m"]),
+        Some(process)
+    );
     Ok(())
 }
 
@@ -242,6 +251,10 @@ fn words_are_judged_first(rt: HostRuntime) -> Result<(), Fail> {
         &["show", "l", "x"],
         &["Show", "l"],
         &["l", "show"],
+        &["process"],
+        &["process", "m", "l"],
+        &["process", "m", "l", "o", "x"],
+        &["Process", "m", "l", "o"],
     ];
     for words in rows {
         let mut desk = desk_of(alloc, MODEL, b"", 1_000_000, &[2])?;
@@ -250,6 +263,7 @@ fn words_are_judged_first(rt: HostRuntime) -> Result<(), Fail> {
             desk.written(Out::Answer),
             Some(b"words not understood\n".as_slice())
         );
+        assert_eq!(rt; desk.written(Out::First), None, "at {words:?}");
     }
     let mut desk = desk_of(alloc, MODEL, b"", 4, &[3])?;
     assert_eq!(rt;

@@ -19,6 +19,15 @@ pub enum Command<'a> {
         /// The name of the log.
         log: &'a str,
     },
+    /// Makes a scaffold of a model into a log.
+    Process {
+        /// The name of the model's text.
+        model: &'a str,
+        /// The name of the scaffold.
+        scaffold: &'a str,
+        /// The name of the log that is written.
+        out: &'a str,
+    },
 }
 
 /// Reads the words of a command line, which stand behind the program's name. None exactly where they are no
@@ -29,6 +38,11 @@ pub fn read_words<'a>(words: &[&'a str]) -> Option<Command<'a>>
     match words {
         ["check", model, log] => Some(Command::Check { model, log }),
         ["show", log] => Some(Command::Show { log }),
+        ["process", model, scaffold, out] => Some(Command::Process {
+            model,
+            scaffold,
+            out,
+        }),
         _ => None,
     }
 }

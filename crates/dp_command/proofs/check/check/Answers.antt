@@ -1,7 +1,10 @@
 -- The reply for a model that was read and a log that was judged.
-use Rattle.std.proofs.Common.{ap}
+use Rattle.std.proofs.Common.{ap, refl, subst}
 use Rattle.dp_desk.specs.Sight.{Sight}
-use Rattle.dp_command.proofs.Checks.{due_at, ended_at, if_ok, sound_at, unread_of}
+use Rattle.dp_command.specs.Found.{IsFound}
+use Rattle.dp_command.specs.Words.{Check}
+use Rattle.dp_command.specs.declared.finding.Found.{Found}
+use Rattle.dp_command.proofs.Checks.{due_at, ended_at, if_ok, refused_of, sound_at, unread_of}
 use Rattle.dp_command.proofs.check.check.Goals as goal
 
 pub returns-in-Problem-clause-due : goal.returns-in-Problem-clause-due
@@ -16,7 +19,12 @@ returns-in-Problem-clause-sound g c =
 
 pub returns-in-Problem-clause-ended : goal.returns-in-Problem-clause-ended
 returns-in-Problem-clause-ended g c =
-    if_ok c.judge_input.result (λ reply h. ended_at reply c.in-Problem.problem c.in_ok-problem.field-0 (g.D.Desk.sight c.read_problem.new.desk) (g.D.Desk.sight c.judge_input.new.desk) c.in-Problem.is c.judge_input.ensures.rest c.in_ok-problem.ensures.ended h) c.judge_input.ensures.ended
+    if_ok c.judge_input.result (λ reply h e. ended_at c.in-Problem.problem c.in_ok-problem.field-0 (g.D.Desk.sight c.read_problem.new.desk) (g.D.Desk.sight c.judge_input.new.desk) c.in-Problem.is c.judge_input.ensures.rest c.in_ok-problem.ensures.ended (h e)) c.judge_input.ensures.ended
 
 pub returns-in-Problem-clause-unread : goal.returns-in-Problem-clause-unread
 returns-in-Problem-clause-unread g c = if_ok c.judge_input.result (λ reply j. unread_of _ _ c.in-Problem.problem reply _ _ j) c.judge_input.ensures.reply
+
+pub returns-in-Refusal-clause-due : goal.returns-in-Refusal-clause-due
+returns-in-Refusal-clause-due g c =
+    refused_of (g.D.Desk.sight c.args.desk.now).names (Check c.args.model.now c.args.log.now) c.args.model.now c.in-Refusal.refusal refl
+    (subst (λ (w : Found). IsFound (g.D.Desk.sight c.args.desk.now).names c.args.model.now w) c.in-Refusal.is c.in_ok-problem.ensures.read)

@@ -1,0 +1,276 @@
+-- What a reply leaves of a desk where it is handed over.
+use Rattle.std.specs.Prelude.{◌≡◌, ◌≢◌, ℕ, ◌≤◌, Option, Some, None, List, [], ◌++◌, ◌⊎◌}
+use Rattle.std.proofs.Common.{refl, sym, ◌∙◌, ap, subst, inl, inr, arith}
+use Rattle.dp_desk.specs.Channel.{Channel, Shut, Hidden, Shown, Files, Grows, GrowsByPart, IsAtEnd, IsOpen, Starts}
+use Rattle.dp_desk.specs.Causes.{Rose}
+use Rattle.dp_desk.specs.Sight.{Sight, with_output}
+use Rattle.dp_desk.specs.declared.desk.Out.TheVariants as Out
+use Rattle.dp_desk.proofs.Channels.{grows_by_none}
+use Rattle.dp_show.specs.declared.shown.Refusal.{Refusal as ShowRefusal}
+use Rattle.dp_command.proofs.Processes.{proof_of}
+use Rattle.dp_command.proofs.Requests.{process_is_no_check, show_is_no_check}
+use Rattle.dp_command.specs.Due.{AreAtEnd, ChangesInputs, ChangesOutputs, Holds, HoldsFront, IsCut, IsFiled, ReadsToEnd, Said, SaidPart, Writes, WritesPart}
+use Rattle.dp_command.specs.Proved.{FilesProof, IsSound, SaysTruth}
+use Rattle.dp_command.specs.Replies.{Replies}
+use Rattle.dp_command.specs.Texts.{file_of, outcome_file, outcome_status, read_fault, shown_status, status_of, text_of}
+use Rattle.dp_command.specs.Words.{Request, Check, Show, Process, IsCheck, IsProcess}
+use Rattle.dp_command.specs.declared.outcome.Outcome.{Outcome}
+use Rattle.dp_command.specs.declared.outcome.Outcome.TheVariants as outcome
+use Rattle.dp_command.specs.declared.reply.Reply.{Reply}
+use Rattle.dp_command.specs.declared.reply.Reply.TheVariants.{NoCommand, ModelRefused, Accepted, Unread, Refused, Shown as ShownLog, Processed}
+
+-- ---- a file
+
+-- what is opened and then grows by a text holds it
+pub holds_of : (started now : Channel) (text : List ℕ) → Starts started → Grows started now text → Holds now text
+holds_of Shut now text s g = absurd s
+holds_of Hidden Shut text s g = absurd g
+holds_of Hidden Hidden text s g = tt
+holds_of Hidden (Shown bytes) text s g = absurd g
+holds_of (Shown was) Shut text s g = absurd g
+holds_of (Shown was) Hidden text s g = tt
+holds_of (Shown was) (Shown bytes) text s g = g ∙ ap (λ w. w ++ text) s
+
+front_by : (started now : Channel) (text front rest : List ℕ) → Starts started → text ≡ front ++ rest → Grows started now front → HoldsFront now text
+front_by Shut now text front rest s e g = absurd s
+front_by Hidden Shut text front rest s e g = absurd g
+front_by Hidden Hidden text front rest s e g = tt
+front_by Hidden (Shown bytes) text front rest s e g = absurd g
+front_by (Shown was) Shut text front rest s e g = absurd g
+front_by (Shown was) Hidden text front rest s e g = tt
+front_by (Shown was) (Shown bytes) text front rest s e g = (rest, e ∙ ap (λ b. b ++ rest) (sym (g ∙ ap (λ w. w ++ front) s)))
+
+-- what is opened and then grows by a part of a text holds a front of it
+pub front_of : (started now : Channel) (text : List ℕ) → Starts started → GrowsByPart started now text → HoldsFront now text
+front_of started now text s g = front_by started now text g.front g.rest s g.whole g.grows
+
+-- what starts is open
+pub starts_open : (c : Channel) → Starts c → IsOpen c
+starts_open Shut s = s
+starts_open Hidden s = tt
+starts_open (Shown bytes) s = tt
+
+-- nothing is a front of every text
+pub no_part : (c : Channel) (text : List ℕ) → IsOpen c → GrowsByPart c c text
+no_part c text opened = record { front = []; rest = text; whole = refl; grows = grows_by_none c opened }
+
+-- where no file is written the first output is as it was
+same_first : (file : Option (List ℕ)) (was now : Channel) (X : Type 0) → file ≡ None → IsFiled file was now ⊎ (IsCut file was now × X) → now ≡ was
+same_first None was now X e (inl h) = h
+same_first None was now X e (inr h) = absurd h.0
+same_first (Some text) was now X e h = absurd cc
+
+-- ---- what was handed over
+
+-- the file and the text were written whole and the status is this, or fronts of them and the status is 6
+abbrev pub WasHanded : ℕ → ℕ → Option (List ℕ) → List ℕ → Sight → Sight → ℕ → ℕ → Type 0
+WasHanded r status file text was now before later =
+    ((r ≡ status) × Writes file text was now × (later ≡ before)) ⊎ ((r ≡ 6) × WritesPart file text was now × Rose before later)
+
+-- so it was for the answer alone
+abbrev pub WasSaid : ℕ → ℕ → List ℕ → Channel → Channel → ℕ → ℕ → Type 0
+WasSaid r status text was now before later =
+    ((r ≡ status) × Grows was now text × (later ≡ before)) ⊎ ((r ≡ 6) × GrowsByPart was now text × Rose before later)
+
+-- behind a whole file
+pub handed_behind : (r status : ℕ) (file : Option (List ℕ)) (text : List ℕ) (was middle now : Sight) (before later : ℕ) (between : ℕ) →
+    middle ≡ with_output Out.First middle.first was → now ≡ with_output Out.Answer now.answer middle → between ≡ before →
+    IsFiled file was.first middle.first → WasSaid r status text middle.answer now.answer between later → WasHanded r status file text was now before later
+handed_behind r status file text was middle now before later between one two same filed (inl h) =
+    inl (
+      h.0,
+      record {
+        filed = subst (λ (c : Channel). IsFiled file was.first c) (sym (ap (λ (t : Sight). t.first) two)) filed;
+        told = subst (λ (c : Channel). Grows c now.answer text) (ap (λ (t : Sight). t.answer) one) h.1;
+      },
+      h.2 ∙ same,
+    )
+handed_behind r status file text was middle now before later between one two same filed (inr h) =
+    inr (
+      h.0,
+      record {
+        part = subst (λ (c : Channel). GrowsByPart c now.answer text) (ap (λ (t : Sight). t.answer) one) h.1;
+        filed = inl (subst (λ (c : Channel). IsFiled file was.first c) (sym (ap (λ (t : Sight). t.first) two)) filed);
+      },
+      subst (λ (n : ℕ). Rose n later) same h.2,
+    )
+
+-- and where the file was cut
+pub handed_cut : (status : ℕ) (file : Option (List ℕ)) (text : List ℕ) (was now : Sight) (before later : ℕ) →
+    now ≡ with_output Out.First now.first was → IsOpen was.answer → IsCut file was.first now.first → Rose before later → WasHanded 6 status file text was now before later
+handed_cut status file text was now before later same opened cut rose =
+    let answer = ap (λ (t : Sight). t.answer) same in
+    inr (refl, record { part = subst (λ (c : Channel). GrowsByPart was.answer c text) (sym answer) (no_part was.answer text opened); filed = inr (cut, answer) }, rose)
+
+-- ---- behind reading
+
+moved : (file : Option (List ℕ)) (text : List ℕ) (was middle now : Sight) → ChangesInputs was middle → Writes file text middle now → Writes file text was now
+moved file text was middle now same w = record {
+  filed = subst (λ (c : Channel). IsFiled file c now.first) (ap (λ (t : Sight). t.first) same) w.filed;
+  told = subst (λ (c : Channel). Grows c now.answer text) (ap (λ (t : Sight). t.answer) same) w.told;
+}
+
+moved_part : (file : Option (List ℕ)) (text : List ℕ) (was middle now : Sight) → ChangesInputs was middle → WritesPart file text middle now → WritesPart file text was now
+moved_part file text was middle now same w = record {
+  part = subst (λ (c : Channel). GrowsByPart c now.answer text) (ap (λ (t : Sight). t.answer) same) w.part;
+  filed =
+      subst (λ (c : Channel). IsFiled file was.first now.first ⊎ (IsCut file was.first now.first × (now.answer ≡ c))) (ap (λ (t : Sight). t.answer) same)
+      (subst (λ (c : Channel). IsFiled file c now.first ⊎ (IsCut file c now.first × (now.answer ≡ middle.answer))) (ap (λ (t : Sight). t.first) same) w.filed);
+}
+
+-- ---- the reply
+
+not_six : (n : ℕ) → n ≤ 4 → n ≡ 6 → ⊥
+not_six n e f = omega (arith, e, f)
+
+pub zero_small : (n : ℕ) → n ≡ 0 → n ≤ 4
+zero_small n e = omega (arith, e)
+
+-- at a status up to 4 the reply's file and text were written
+pub said_of : (names : Option Files) (words : List (List ℕ)) (reply : Reply) (was middle now : Sight) (r : ℕ) (text : List ℕ) (before later : ℕ) →
+    ChangesInputs was middle → Replies names words reply → text ≡ text_of reply →
+    WasHanded r (status_of reply) (file_of reply) text middle now before later → r ≤ 4 → Said names words r was now
+said_of names words reply was middle now r text before later same due tx (inl h) small =
+    record { reply = reply; due = due; stands = h.0; written = moved (file_of reply) (text_of reply) was middle now same (subst (λ (t : List ℕ). Writes (file_of reply) t middle now) tx h.1) }
+said_of names words reply was middle now r text before later same due tx (inr h) small = absurd (not_six r small h.0)
+
+truth_by : (names : Option Files) (words : List (List ℕ)) (reply : Reply) (was now : Channel) → Replies names words reply → IsSound names words reply → IsCheck words → status_of reply ≡ 0 →
+    Grows was now (text_of reply) → SaysTruth names words was now
+truth_by names words (Accepted claim) was now due sound check e text = record { claim = claim; proved = sound; text = text }
+truth_by names words NoCommand was now due sound check e text = absurd cc
+truth_by names words (ModelRefused refusal) was now due sound check e text = absurd cc
+truth_by names words (Unread refusal) was now due sound check e text = absurd cc
+truth_by names words (Refused refusal told) was now due sound check e text = absurd cc
+truth_by names words (ShownLog shown) was now due sound check e text = absurd (show_is_no_check words due.log check due.asked)
+truth_by names words (Processed o) was now due sound check e text = absurd (process_is_no_check words due.model due.scaffold due.out check due.asked)
+
+-- at status 0 the claim that was written is true
+pub truth_said : (names : Option Files) (words : List (List ℕ)) (reply : Reply) (was middle now : Sight) (r : ℕ) (text : List ℕ) (before later : ℕ) →
+    ChangesInputs was middle → Replies names words reply → IsSound names words reply → text ≡ text_of reply →
+    WasHanded r (status_of reply) (file_of reply) text middle now before later → r ≡ 0 → IsCheck words → SaysTruth names words was.answer now.answer
+truth_said names words reply was middle now r text before later same due sound tx (inl h) e check =
+    truth_by names words reply was.answer now.answer due sound check (sym h.0 ∙ e)
+    (moved (file_of reply) (text_of reply) was middle now same (subst (λ (t : List ℕ). Writes (file_of reply) t middle now) tx h.1)).told
+truth_said names words reply was middle now r text before later same due sound tx (inr h) e check = absurd (not_six r (zero_small r e) h.0)
+
+-- and the processed log stands in the file
+pub filed_said : (names : Option Files) (words : List (List ℕ)) (was now : Sight) (r : ℕ) → Said names words r was now → IsProcess words → r ≡ 0 → FilesProof names words now.first
+filed_said names words was now r said process e = proof_of names words said.reply was.first now.first said.due process (sym said.stands ∙ e) said.written.filed
+
+-- ---- the inputs
+
+still_at_end : (request : Request) (middle : Sight) (first answer : Channel) → AreAtEnd request middle → AreAtEnd request (with_output Out.Answer answer (with_output Out.First first middle))
+still_at_end (Check model log) middle first answer h = h
+still_at_end (Show log) middle first answer h = h
+still_at_end (Process model scaffold out) middle first answer h = h
+
+-- at status 0 the inputs were read to their ends before
+pub ended_said : (words : List (List ℕ)) (reply : Reply) (middle now : Sight) (r : ℕ) (file : Option (List ℕ)) (text : List ℕ) (before later : ℕ) →
+    now ≡ with_output Out.Answer now.answer (with_output Out.First now.first middle) → (status_of reply ≡ 0 → ReadsToEnd words middle) →
+    WasHanded r (status_of reply) file text middle now before later → r ≡ 0 → ReadsToEnd words now
+ended_said words reply middle now r file text before later same ended (inl h) e =
+    let read = ended (sym h.0 ∙ e) in
+    record { request = read.request; asked = read.asked; ended = subst (AreAtEnd read.request) (sym same) (still_at_end read.request middle now.first now.answer read.ended) }
+ended_said words reply middle now r file text before later same ended (inr h) e = absurd (not_six r (zero_small r e) h.0)
+
+-- ---- a failed write
+
+no_fault : (reply : Reply) → status_of reply ≡ 6 → ⊥
+no_fault NoCommand e = absurd cc
+no_fault (ModelRefused refusal) e = absurd cc
+no_fault (Accepted claim) e = absurd cc
+no_fault (Unread refusal) e = absurd cc
+no_fault (Refused refusal told) e = absurd cc
+no_fault (ShownLog shown) e = not_shown shown.refusal e
+  where
+    not_shown : (refusal : Option ShowRefusal) → shown_status refusal ≡ 6 → ⊥
+    not_shown None e = absurd cc
+    not_shown (Some refusal) e = absurd cc
+no_fault (Processed o) e = not_processed o e
+  where
+    not_processed : (o : Outcome) → outcome_status o ≡ 6 → ⊥
+    not_processed (outcome.Done done) e = absurd cc
+    not_processed (outcome.Unread refusal) e = absurd cc
+    not_processed (outcome.Refused refusal text) e = absurd cc
+    not_processed (outcome.NotFollowing failing) e = absurd cc
+
+-- at status 6 fronts of the reply's file and text stand there
+pub front_said : (names : Option Files) (words : List (List ℕ)) (F : Type 0) (reply : Reply) (was middle now : Sight) (r : ℕ) (text : List ℕ) (before later : ℕ) →
+    ChangesInputs was middle → Replies names words reply → text ≡ text_of reply →
+    WasHanded r (status_of reply) (file_of reply) text middle now before later → r ≡ 6 → SaidPart names words F was now
+front_said names words F reply was middle now r text before later same due tx (inl h) e = absurd (no_fault reply (sym h.0 ∙ e))
+front_said names words F reply was middle now r text before later same due tx (inr h) e =
+    record { file = file_of reply; text = text; due = inl (reply, due, refl, tx); written = moved_part (file_of reply) text was middle now same h.1 }
+
+-- so does a front of the text of a read fault
+pub front_fault : (names : Option Files) (words : List (List ℕ)) (F : Type 0) (was middle now : Sight) (r : ℕ) (text : List ℕ) (before later : ℕ) →
+    ChangesInputs was middle → now ≡ with_output Out.Answer now.answer middle → F → text ≡ read_fault → WasSaid r 5 text middle.answer now.answer before later → r ≡ 6 →
+    SaidPart names words F was now
+front_fault names words F was middle now r text before later same rest fault tx (inl h) e = absurd (five_is_not_six r h.0 e)
+  where
+    five_is_not_six : (n : ℕ) → n ≡ 5 → n ≡ 6 → ⊥
+    five_is_not_six n e f = omega (arith, e, f)
+front_fault names words F was middle now r text before later same rest fault tx (inr h) e =
+    record {
+      file = None;
+      text = text;
+      due = inr (fault, refl, tx);
+      written = record {
+        part = subst (λ (c : Channel). GrowsByPart c now.answer text) (ap (λ (t : Sight). t.answer) same) h.1;
+        filed = inl (ap (λ (t : Sight). t.first) rest ∙ ap (λ (t : Sight). t.first) same);
+      };
+    }
+
+-- ---- no file
+
+first_of : (file : Option (List ℕ)) (text : List ℕ) (r status : ℕ) (was middle now : Sight) (before later : ℕ) → ChangesInputs was middle → file ≡ None →
+    WasHanded r status file text middle now before later → now.first ≡ was.first
+first_of file text r status was middle now before later same none (inl h) =
+    same_first file middle.first now.first ⊥ none (inl h.1.filed) ∙ ap (λ (t : Sight). t.first) same
+first_of file text r status was middle now before later same none (inr h) =
+    same_first file middle.first now.first (now.answer ≡ middle.answer) none h.1.filed ∙ ap (λ (t : Sight). t.first) same
+
+no_file : (names : Option Files) (words : List (List ℕ)) (reply : Reply) → Replies names words reply → (IsProcess words → ⊥) → file_of reply ≡ None
+no_file names words NoCommand due other = refl
+no_file names words (ModelRefused refusal) due other = refl
+no_file names words (Accepted claim) due other = refl
+no_file names words (Unread refusal) due other = refl
+no_file names words (Refused refusal told) due other = refl
+no_file names words (ShownLog shown) due other = refl
+no_file names words (Processed o) due other = absurd (other (due.model, due.scaffold, due.out, due.asked))
+
+-- other words leave the first output as it was
+pub unfiled_words : (names : Option Files) (words : List (List ℕ)) (reply : Reply) (text : List ℕ) (r : ℕ) (was middle now : Sight) (before later : ℕ) →
+    ChangesInputs was middle → Replies names words reply → WasHanded r (status_of reply) (file_of reply) text middle now before later → (IsProcess words → ⊥) → now.first ≡ was.first
+unfiled_words names words reply text r was middle now before later same due h other =
+    first_of (file_of reply) text r (status_of reply) was middle now before later same (no_file names words reply due other) h
+
+not_done : (reply : Reply) → (status_of reply ≡ 0 → ⊥) → file_of reply ≡ None
+not_done NoCommand h = refl
+not_done (ModelRefused refusal) h = refl
+not_done (Accepted claim) h = refl
+not_done (Unread refusal) h = refl
+not_done (Refused refusal told) h = refl
+not_done (ShownLog shown) h = refl
+not_done (Processed o) h = not_processed o h
+  where
+    not_processed : (o : Outcome) → (outcome_status o ≡ 0 → ⊥) → outcome_file o ≡ None
+    not_processed (outcome.Done done) h = absurd (h refl)
+    not_processed (outcome.Unread refusal) h = refl
+    not_processed (outcome.Refused refusal text) h = refl
+    not_processed (outcome.NotFollowing failing) h = refl
+
+-- so does another status
+pub unfiled : (reply : Reply) (text : List ℕ) (r : ℕ) (was middle now : Sight) (before later : ℕ) →
+    ChangesInputs was middle → WasHanded r (status_of reply) (file_of reply) text middle now before later → r ≢ 0 → r ≢ 6 → now.first ≡ was.first
+unfiled reply text r was middle now before later same (inl h) done fault =
+    first_of (file_of reply) text r (status_of reply) was middle now before later same (not_done reply (λ e. done (h.0 ∙ e))) (inl h)
+unfiled reply text r was middle now before later same (inr h) done fault = absurd (fault h.0)
+
+by_parts : (was now : Sight) → now.names ≡ was.names → now.second ≡ was.second → ChangesOutputs was now
+by_parts was now e f = ap (λ (n : Option Files). record now { names = n }) e ∙ ap (λ (s : Channel). record now { names = was.names; second = s }) f
+
+-- all else is as it was
+pub rest_said : (was middle now : Sight) → ChangesInputs was middle → now ≡ with_output Out.Answer now.answer (with_output Out.First now.first middle) → ChangesOutputs was now
+rest_said was middle now same rest =
+    by_parts was now (ap (λ (t : Sight). t.names) rest ∙ ap (λ (t : Sight). t.names) same) (ap (λ (t : Sight). t.second) rest ∙ ap (λ (t : Sight). t.second) same)
