@@ -329,9 +329,9 @@ fn failed_writes_of_a_log_are_told(rt: HostRuntime) -> Result<(), Fail> {
     let log = format!(in alloc; "{STEPS}{END}")?;
     let left = processed(alloc, MODEL, "c UNSAT\n", 16, &[14])?;
     assert!(rt; left.is(6, b"", None), "opening the file fails");
-    for (call, count) in (15..32).zip(0..17) {
+    for call in 15..32 {
         let left = processed(alloc, MODEL, "c UNSAT\n", 16, &[call])?;
-        let file = front(log.as_bytes(), 16 * count);
+        let file = front(log.as_bytes(), 16 * (call as usize - 15));
         assert!(rt; left.is(6, b"", Some(file)), "call {call} fails");
     }
     Ok(())
