@@ -1,5 +1,5 @@
 -- The reply for a model that was read and a log that was judged.
-use Rattle.std.specs.Prelude.{◌≡◌, ℕ, ◌≤◌, nat_le, Bool, true, false, if◌then◌else◌, Option, Some, None, Result, Ok, Err, IfOk, List}
+use Rattle.std.specs.Prelude.{◌≡◌, ℕ, ◌≤◌, nat_le, Bool, true, false, if◌then◌else◌, Option, Some, Result, Ok, Err, IfOk, List}
 use Rattle.std.proofs.Common.{refl, sym, ap, subst, arith}
 use Rattle.std.proofs.lemmas.Bool.Decides.{nat_tests}
 use Rattle.dp_desk.specs.Channel.{Files, IsAtEnd}
@@ -18,7 +18,6 @@ use Rattle.dp_command.specs.Due.{LeavesUnread}
 use Rattle.dp_command.specs.Found.{IsFound, IsProblemFound, IsProblemOf}
 use Rattle.dp_command.specs.Proved.{IsSound}
 use Rattle.dp_command.specs.Replies.{IsGiven, IsJudged, JudgesLog, Replies, model_of, reply_of}
-use Rattle.dp_command.specs.Texts.{status_of}
 use Rattle.dp_command.specs.Words.{Request, Check, words_of}
 use Rattle.dp_command.specs.declared.finding.Found.{Found}
 use Rattle.dp_command.specs.declared.finding.Found.TheVariants.{Problem, Refusal}

@@ -1,5 +1,5 @@
 -- What is right of a model's problem is true of the model.
-use Rattle.std.specs.Prelude.{◌≡◌, ℕ, ◌==◌, Bool, true, false, ◌&&◌, ◌↔◌, Option, Some, List, ℤ}
+use Rattle.std.specs.Prelude.{◌≡◌, ℕ, ◌==◌, Bool, true, false, ◌&&◌, ◌↔◌, Some, List, ℤ}
 use Rattle.std.proofs.Common.{refl, sym, ◌∙◌, ap, subst, arith}
 use Rattle.std.proofs.lemmas.Bool.{false≢true}
 use Rattle.std.proofs.lemmas.Bool.Decides.{nat_tests}
@@ -24,9 +24,9 @@ use Rattle.fz_model.specs.declared.model.Item.{Item}
 use Rattle.fz_model.specs.declared.model.ModelGoal.{ModelGoal}
 use Rattle.fz_model.specs.declared.model.ModelGoal.TheVariants.{Satisfy, Minimize, Maximize}
 use Rattle.fz_sat.specs.Args.{term_of}
-use Rattle.fz_sat.specs.Satisfies.{Satisfies, goal_value, objective_of}
+use Rattle.fz_sat.specs.Satisfies.{Satisfies, goal_value}
 use Rattle.dp_command.specs.Found.{IsProblemOf}
-use Rattle.dp_command.specs.Proved.{IsBest, IsSideOf, IsTrueOf}
+use Rattle.dp_command.specs.Proved.{IsSideOf, IsTrueOf}
 use Rattle.dp_command.specs.Named.{claim_of}
 
 least_op : (op : Op) → is_at_least op ≡ true → op ≡ Ge

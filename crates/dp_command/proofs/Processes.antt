@@ -1,8 +1,7 @@
 -- What becomes of a scaffold, and what is written of it.
-use Rattle.std.specs.Prelude.{◌≡◌, ℕ, ◌≤◌, ◌<◌, ◌+◌, ◌^◌, Option, Some, None, Result, Ok, Err, List, [], ◌∷◌, length}
-use Rattle.std.proofs.Common.{refl, sym, ◌∙◌, ap, subst, arith}
+use Rattle.std.specs.Prelude.{◌≡◌, ℕ, ◌≤◌, ◌<◌, ◌+◌, ◌^◌, Option, Some, None, Result, Ok, Err, List, length}
+use Rattle.std.proofs.Common.{refl, subst, arith}
 use Rattle.dp_desk.specs.Channel.{Channel, Files, IsAtEnd}
-use Rattle.dp_desk.specs.Sight.{Sight}
 use Rattle.dp_judge.proofs.AcceptLaws.{read_small}
 use Rattle.dp_judge.specs.Logs.{judged_log, limits}
 use Rattle.dp_judge.specs.declared.answer.LogAnswer.TheVariants.{Accepted as AcceptedLog}

@@ -1,7 +1,7 @@
 -- What a reply leaves of a desk where it is handed over.
 use Rattle.std.specs.Prelude.{◌≡◌, ◌≢◌, ℕ, ◌≤◌, Option, Some, None, List, [], ◌++◌, ◌⊎◌}
 use Rattle.std.proofs.Common.{refl, sym, ◌∙◌, ap, subst, inl, inr, arith}
-use Rattle.dp_desk.specs.Channel.{Channel, Shut, Hidden, Shown, Files, Grows, GrowsByPart, IsAtEnd, IsOpen, Starts}
+use Rattle.dp_desk.specs.Channel.{Channel, Shut, Hidden, Shown, Files, Grows, GrowsByPart, IsOpen, Starts}
 use Rattle.dp_desk.specs.Causes.{Rose}
 use Rattle.dp_desk.specs.Sight.{Sight, with_output}
 use Rattle.dp_desk.specs.declared.desk.Out.TheVariants as Out

@@ -1,6 +1,6 @@
 -- The reply for a log that is shown.
-use Rattle.std.specs.Prelude.{◌≡◌, ℕ, ◌+◌, ◌<◌, ◌≤◌, ◌^◌, Option, Some, None, option_map, List, [], ◌∷◌, length}
-use Rattle.std.proofs.Common.{refl, ap, subst, arith}
+use Rattle.std.specs.Prelude.{◌≡◌, ℕ, ◌+◌, ◌<◌, ◌≤◌, ◌^◌, Option, Some, None, List, [], ◌∷◌, length}
+use Rattle.std.proofs.Common.{refl, subst, arith}
 use Rattle.dp_checker.specs.declared.refusal.Why.{Why}
 use Rattle.dp_desk.specs.Channel.{Channel, IsAtEnd}
 use Rattle.dp_judge.proofs.AcceptLaws.{read_small}

@@ -1,7 +1,6 @@
 -- What the answer and the file have to hold, and what a run leaves of a desk.
 use Rattle.std.specs.Prelude.{◌≡◌, ◌⊎◌, ◌++◌, ℕ, List, Option, Some, None}
 use Rattle.dp_desk.specs.Channel.{Channel, Files, Grows, GrowsByPart, IsAtEnd, Shut, Hidden, Shown}
-use Rattle.dp_desk.specs.Causes.{Rose}
 use Rattle.dp_desk.specs.Sight.{Sight}
 use Rattle.dp_command.specs.Replies.{Replies}
 use Rattle.dp_command.specs.Texts.{file_of, text_of, status_of, read_fault}

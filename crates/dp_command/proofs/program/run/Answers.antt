@@ -1,7 +1,7 @@
 -- What was said of a reply.
 use Rattle.std.proofs.Common.{◌∙◌}
 use Rattle.dp_desk.specs.Causes.{Rose}
-use Rattle.dp_command.proofs.Says.{ended_said, filed_said, front_fault, front_said, rest_said, said_of, truth_said, unfiled, unfiled_words, zero_small}
+use Rattle.dp_command.proofs.Says.{ended_said, filed_said, front_said, rest_said, said_of, truth_said, unfiled, unfiled_words, zero_small}
 use Rattle.dp_command.proofs.program.run.Goals as goal
 
 pub returns-in-Ok-text-clause-answered : goal.returns-in-Ok-text-clause-answered

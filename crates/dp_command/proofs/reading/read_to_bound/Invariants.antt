@@ -1,4 +1,4 @@
-use Rattle.std.proofs.Common.{◌≡◌, ◌<◌, ◌≤◌, ◌-◌, length, ℕ}
+use Rattle.std.proofs.Common.{◌≡◌, ◌<◌, ◌≤◌, ◌-◌, length}
 use Rattle.dp_desk.specs.Channel.{Takes}
 use Rattle.dp_desk.specs.Sight.{input, with_input}
 use Rattle.dp_command.proofs.reading.read_to_bound.Given as goal
