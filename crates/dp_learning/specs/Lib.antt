@@ -1,0 +1,4 @@
+pub mod Learning
+pub mod Solutions
+pub mod Sorts
+pub mod Scaffolds

@@ -1,0 +1,8 @@
+//! Solves a problem, and writes what it learns as a scaffold: nogoods that follow, each new, and a claim.
+#![tactic(auto)]
+
+mod outcome;
+mod solve;
+
+pub use outcome::{Outcome, SolveFault};
+pub use solve::{solve, solve_cut};
