@@ -1,5 +1,8 @@
 // What a solver answers.
 
+ghost use Rattle.std.specs.Prelude.{◌≡◌};
+ghost use Rattle.dp_solver.specs.declared.outcome.SolveFault.TheVariants.{Memory as no_memory, WriteFault as no_write};
+
 use dp_base::{Assignment, Memory};
 use dp_desk::Failed;
 use dp_domain::Atom;
@@ -30,12 +33,16 @@ pub enum SolveFault {
 }
 
 impl From<Memory> for SolveFault {
+    ghost from_gives = { λ _ e. e ≡ no_memory };
+
     fn from(_memory: Memory) -> SolveFault {
         SolveFault::Memory
     }
 }
 
 impl From<Failed> for SolveFault {
+    ghost from_gives = { λ _ e. e ≡ no_write };
+
     fn from(_failed: Failed) -> SolveFault {
         SolveFault::WriteFault
     }
