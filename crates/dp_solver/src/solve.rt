@@ -9,10 +9,15 @@ ghost use Rattle.dp_learning.specs.Sorts.{sort_count};
 ghost use Rattle.dp_parts.specs.Problems.{IsGoalOf};
 ghost use Rattle.dp_solver.specs.Outcomes.{HasWriteCause, IsDecided, Solves, SolvesInPart};
 
+use crate::round::{Round, one_round};
+use crate::task::{Search, Task};
 use crate::{Outcome, SolveFault};
+use dp_base::Memory;
 use dp_desk::{Desk, Out};
 use dp_domain::Atom;
+use dp_engine::Engine;
 use dp_parts::{Goal, Problem};
+use dp_writer::Writer;
 use std::alloc::Global;
 
 /// Solves a problem by its own goal, as `solve_cut` does without atoms.
@@ -33,15 +38,7 @@ pub fn solve<D: Desk>(
     ensures rest { D.sight desk.new ≡ with_output out (output out (D.sight desk.new)) (D.sight desk.old) }
     ensures other { D.faults_in desk.new ≡ D.faults_in desk.old }
 {
-    solve_cut(
-        alloc,
-        problem,
-        &[],
-        problem.goal(),
-        conflicts,
-        desk,
-        out,
-    )
+    solve_cut(alloc, problem, &[], problem.goal(), conflicts, desk, out)
 }
 
 /// Solves the problem whose initial domains are cut by the atoms and whose goal is the one given. It learns
@@ -73,5 +70,43 @@ pub fn solve_cut<D: Desk>(
     ensures rest { D.sight desk.new ≡ with_output out (output out (D.sight desk.new)) (D.sight desk.old) }
     ensures other { D.faults_in desk.new ≡ D.faults_in desk.old }
 {
-    Err(SolveFault::Memory)
+    let task = Task {
+        alloc,
+        problem,
+        atoms,
+        goal,
+        most: conflicts,
+    };
+    let mut search = start(&task)?;
+    search_on(&task, &mut search, desk, out)
+}
+
+/// A search that stands at the initial domains.
+fn start<'p>(task: &Task<'p>) -> Result<Search<'p>, Memory> {
+    let mut engine = Engine::new(task.alloc, task.problem, &[])?;
+    engine.assume(task.atoms)?;
+    let root = engine.mark();
+    Ok(Search {
+        engine,
+        root,
+        writer: Writer::new(task.alloc),
+        learned: 0,
+    })
+}
+
+/// Searches round after round, until the outcome is known.
+fn search_on<D: Desk>(
+    task: &Task,
+    search: &mut Search,
+    desk: &mut D,
+    out: Out,
+) -> Result<Outcome, SolveFault> {
+    let mut best = None;
+    loop {
+        let end = one_round(task, search, best, desk, out)?;
+        match end {
+            Round::Ended(outcome) => return Ok(outcome),
+            Round::Open(found) => best = found,
+        }
+    }
 }

@@ -1,0 +1,33 @@
+// Shorter nogoods.
+
+use crate::rest::propagate;
+use crate::task::Task;
+use dp_base::Memory;
+use dp_domain::Atom;
+use dp_engine::Engine;
+
+/// Drops each atom but the last without which propagation still fails.
+pub(crate) fn shorten(
+    task: &Task,
+    engine: &mut Engine,
+    root: usize,
+    mut atoms: Vec<Atom>,
+) -> Result<Vec<Atom>, Memory> {
+    let mut place = 0;
+    while place + 1 < atoms.len() {
+        let shorter = without(task, atoms.as_slice(), place)?;
+        if propagate(engine, root, shorter.as_slice())? {
+            atoms = shorter;
+        } else {
+            place += 1;
+        }
+    }
+    Ok(atoms)
+}
+
+/// The atoms without the one at the place.
+fn without(task: &Task, atoms: &[Atom], place: usize) -> Result<Vec<Atom>, Memory> {
+    let mut others = atoms.to_vec(task.alloc)?;
+    others.remove(place);
+    Ok(others)
+}
