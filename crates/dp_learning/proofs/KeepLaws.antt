@@ -9,11 +9,11 @@ use Rattle.dp_domain.specs.States.{Domains, IsWithin, cut, cut_all, entails, ent
 use Rattle.dp_domain.specs.Turns.{IsTurn}
 use Rattle.dp_domain.specs.declared.found.Found.{Found}
 use Rattle.dp_domain.specs.declared.found.Found.TheVariants.{Clash as Clashes, Atom as Gives}
-use Rattle.dp_domain.proofs.StateLaws.{IsWithin-cut_all, IsWithin-trans, dead-within, entails-cut_all, entails-within}
+use Rattle.dp_domain.proofs.StateLaws.{IsWithin-cut_all, IsWithin-trans, dead-within, entails-cut_all, entails-within, length-cut_all}
 use Rattle.dp_engine.specs.declared.part_id.PartId.{PartId}
 use Rattle.dp_engine.specs.declared.turn.Turn.TheVariants.{Atom, Clash}
 use Rattle.dp_engine.specs.Placed.{AreSound, Placed, turn_order}
-use Rattle.dp_engine.specs.Runs.{fails, run, state_after}
+use Rattle.dp_engine.specs.Runs.{fails, follows, run, state_after}
 use Rattle.dp_engine.specs.Turns.{Taken, first, turn_at}
 use Rattle.dp_engine.proofs.FailureLaws.{order-more}
 use Rattle.dp_engine.proofs.RunLaws.{turn-quiet}
@@ -60,6 +60,11 @@ keeps-dead n parts base d sound m dead keeps =
 pub keeps-failure : (n : ℕ) (parts : List Placed) (base d : Domains) → AreSound n parts → length base ≡ n → length d ≡ n → fails parts d ≡ true → KeepsRest parts base d → fails parts base ≡ true
 keeps-failure n parts base d sound m l f keeps =
     none-fails n parts base sound m (λ e rest w. both_ways (fails parts d) (rest-no_failure n parts d e sound l rest (keeps e rest w)) f)
+
+-- a nogood follows where the run fails from such a state of the initial domains cut by its atoms
+pub follows-from : (p : Posed) (before : List (List Atomic)) (atoms : List Atomic) (d : Domains) → AreSound (length p.initial) (turn_order p before) → length d ≡ length p.initial → fails (turn_order p before) d ≡ true → KeepsRest (turn_order p before) (cut_all p.initial atoms) d → follows p before atoms ≡ true
+follows-from p before atoms d sound l f keeps =
+    keeps-failure (length p.initial) (turn_order p before) (cut_all p.initial atoms) d sound (length-cut_all p.initial atoms) l f keeps
 
 -- ---- more parts
 

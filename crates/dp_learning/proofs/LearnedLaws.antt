@@ -1,5 +1,5 @@
 -- Learned nogoods: when one is new, and lists of them.
-use Rattle.std.proofs.Common.{◌≡◌, true, false, ◌⊎◌, List, [], ◌∷◌, ◌++◌, length, refl, sym, ◌∙◌, ap, subst, inl, inr}
+use Rattle.std.proofs.Common.{◌≡◌, true, false, ◌⊎◌, List, [], ◌∷◌, ◌++◌, length, append_assoc, refl, sym, ◌∙◌, ap, subst, inl, inr}
 use Rattle.std.proofs.lemmas.Bool.{both_ways, cases_Bool}
 use Rattle.dp_base.specs.Lists.{Among, Each}
 use Rattle.dp_base.proofs.Lists.{Each-from_among}
@@ -76,6 +76,10 @@ learned-more p nogoods nogood all more before after one e = elim (split_last nog
   | inl r ↦ subst (λ m. IsLearned p before m) r.1 (subst (λ ms. IsLearned p ms nogood) r.0 more)
   | inr r ↦ all before r.0 one r.1
 ]
+
+-- the first of learned nogoods are learned
+pub learned-fewer : (p : Posed) (some more : List (List Atomic)) → AreLearned p (some ++ more) → AreLearned p some
+learned-fewer p some more all before after nogood e = all before (after ++ more) nogood (ap (λ ms. ms ++ more) e ∙ append_assoc before (nogood ∷ after) more)
 
 -- learned nogoods are on the problem's variables
 pub learned-variables : (p : Posed) (nogoods : List (List Atomic)) → AreLearned p nogoods → Each (AreOf p.initial) nogoods

@@ -13,7 +13,7 @@ use Rattle.dp_parts.specs.Problems.{Csp, IsGoalOf, IsProblem, IsSolution, labell
 use Rattle.dp_parts.specs.declared.goal.Goal.{Goal}
 use Rattle.dp_parts.specs.declared.part.Part.{Part}
 use Rattle.dp_learning.specs.Learning.{IsAtRest}
-use Rattle.dp_learning.specs.Solutions.{cut_problem}
+use Rattle.dp_learning.specs.Solutions.{IsSolutionOf, assigned, cut_problem}
 use Rattle.dp_learning.proofs.MeetLaws.{calm-meets}
 use Rattle.dp_learning.proofs.RestLaws.{at-rest-alive, at-rest-quiet}
 
@@ -49,6 +49,11 @@ rest-solves p ns d s kept on rest w fixed =
       meets = constraints_met (length p.initial) 0 p.parts d s (at-rest-alive (turn_order (posed p) ns) d rest) fixed kept.parts
           (Each-append_parts (λ (q : Placed). IsTurn q.face d None) (of_constraints 0 (posed p).constraints) (of_nogoods 0 ns) quiet).0;
     }
+
+-- the same of a list of numbers
+pub rest-solution : (p : Csp) (ns : List (List Atomic)) (d : Domains) (numbers : List ℤ) → IsProblem p → Each (AreOf p.initial) ns → IsAtRest (turn_order (posed p) ns) d → IsWithin d p.initial → length numbers ≡ length p.initial
+    → ((x : ℕ) → x < length p.initial → values d x ≡ assigned numbers x ∷ []) → IsSolutionOf p numbers
+rest-solution p ns d numbers kept on rest w l fixed = record { count = l; solves = rest-solves p ns d (assigned numbers) kept on rest w fixed }
 
 -- a problem whose domains are cut, with a goal on its variables, is a problem
 pub cut-problem-kept : (p : Csp) (atoms : List Atomic) (goal : Goal) → IsProblem p → IsGoalOf (length p.initial) goal → IsProblem (cut_problem p atoms goal)
