@@ -1,8 +1,17 @@
 // The way down: decisions until a conflict, or until each variable has one value.
 
+ghost use Rattle.std.specs.Prelude.{◌≡◌, IfOk, OnOk, IfSome};
+ghost use Rattle.dp_engine.specs.Engines.{Extends, KeepsParts};
+ghost use Rattle.dp_learning.specs.Learning.{denial_of};
+ghost use Rattle.dp_parts.specs.Problems.{Csp};
+ghost use Rattle.dp_solver.specs.Descents.{IsDescending, IsDescent, IsLess, IsLevel};
+ghost use Rattle.dp_solver.specs.Rounds.{IsBest, claim_of};
+ghost use Rattle.dp_solver.specs.Marks.{IsOn, asked};
+
+use crate::best::denial;
 use crate::decision::decision;
 use crate::rest::{propagate, run_to_rest};
-use crate::task::Task;
+use crate::task::{Best, Task};
 use dp_base::Memory;
 use dp_domain::Atom;
 use dp_engine::Engine;
@@ -29,24 +38,35 @@ pub(crate) enum Level {
     Rests,
 }
 
-/// Goes down under the atoms from the initial domains.
+/// Goes down from the initial domains, under the denial of what is still to be shown.
 pub(crate) fn descend(
     task: &Task,
     engine: &mut Engine,
     root: usize,
-    under: Vec<Atom>,
-) -> Result<Descent, Memory> {
+    best: &Option<Best>,
+) -> Result<Descent, Memory>
+    requires engine { IsOn (asked task.now) root engine.old }
+    requires best { IfSome best.now (IsBest (asked task.now)) }
+    ensures descent { IfOk result (IsDescent (asked task.now) engine.old.nogoods (denial_of (claim_of best.now)) engine.new.present) }
+    ensures engine { OnOk result (IsOn (asked task.now) root engine.new) }
+    ensures nogoods { engine.new.nogoods ≡ engine.old.nogoods }
+{
+    let under = denial(task, best)?;
     if propagate(engine, root, under.as_slice())? {
         Ok(Descent::Refuted)
     } else {
-        go_down(task, engine, under)
+        go_down(engine, under)
     }
 }
 
 /// Decides until the way down ends.
-fn go_down(task: &Task, engine: &mut Engine, mut atoms: Vec<Atom>) -> Result<Descent, Memory> {
+fn go_down(engine: &mut Engine, mut atoms: Vec<Atom>) -> Result<Descent, Memory>
+    ensures descent { (p : Csp) → IsDescending p atoms.items engine.old → IfOk result (IsDescent p engine.old.nogoods atoms.items engine.new.present) }
+    ensures parts { KeepsParts engine.old engine.new }
+    ensures states { Extends engine.old engine.new }
+{
     loop {
-        let level = decide(task, engine, &mut atoms)?;
+        let level = decide(engine, &mut atoms)?;
         match level {
             Level::Fixed => return Ok(Descent::Fixed),
             Level::Failed => return Ok(Descent::Conflict(atoms)),
@@ -56,7 +76,12 @@ fn go_down(task: &Task, engine: &mut Engine, mut atoms: Vec<Atom>) -> Result<Des
 }
 
 /// One decision more.
-fn decide(task: &Task, engine: &mut Engine, atoms: &mut Vec<Atom>) -> Result<Level, Memory> {
+fn decide(engine: &mut Engine, atoms: &mut Vec<Atom>) -> Result<Level, Memory>
+    ensures level { (p : Csp) → IsDescending p atoms.old.items engine.old → IfOk result (IsLevel p engine.old atoms.new.items engine.new) }
+    ensures less { IfOk result (IsLess engine.old.present engine.new.present) }
+    ensures parts { KeepsParts engine.old engine.new }
+    ensures states { Extends engine.old engine.new }
+{
     match decision(engine.state()) {
         None => Ok(Level::Fixed),
         Some(atom) => {

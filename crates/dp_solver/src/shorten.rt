@@ -1,5 +1,9 @@
 // Shorter nogoods.
 
+ghost use Rattle.std.specs.Prelude.{◌≡◌, ◌+◌, ◌<◌, ◌++◌, length, take, drop, IfOk, OnOk};
+ghost use Rattle.dp_solver.specs.Descents.{IsFound};
+ghost use Rattle.dp_solver.specs.Marks.{IsOn, asked};
+
 use crate::rest::propagate;
 use crate::task::Task;
 use dp_base::Memory;
@@ -12,7 +16,13 @@ pub(crate) fn shorten(
     engine: &mut Engine,
     root: usize,
     mut atoms: Vec<Atom>,
-) -> Result<Vec<Atom>, Memory> {
+) -> Result<Vec<Atom>, Memory>
+    requires engine { IsOn (asked task.now) root engine.old }
+    requires atoms { IsFound (asked task.now) engine.old.nogoods atoms.items }
+    ensures shorter { IfOk result (λ shorter. IsFound (asked task.now) engine.old.nogoods shorter.items) }
+    ensures engine { OnOk result (IsOn (asked task.now) root engine.new) }
+    ensures nogoods { engine.new.nogoods ≡ engine.old.nogoods }
+{
     let mut place = 0;
     while place + 1 < atoms.len() {
         let shorter = without(task, atoms.as_slice(), place)?;
@@ -26,7 +36,10 @@ pub(crate) fn shorten(
 }
 
 /// The atoms without the one at the place.
-fn without(task: &Task, atoms: &[Atom], place: usize) -> Result<Vec<Atom>, Memory> {
+fn without(task: &Task, atoms: &[Atom], place: usize) -> Result<Vec<Atom>, Memory>
+    requires { place < length atoms.now }
+    ensures { IfOk result (λ others. others.items ≡ take place atoms.now ++ drop (place + 1) atoms.now) }
+{
     let mut others = atoms.to_vec(task.alloc)?;
     others.remove(place);
     Ok(others)
