@@ -8,12 +8,12 @@ mod outcome;
 mod rest;
 mod round;
 mod shorten;
-mod solve;
+mod solving;
 mod task;
 mod writing;
 
 pub use outcome::{Outcome, SolveFault};
-pub use solve::{solve, solve_cut};
+pub use solving::{solve, solve_cut};
 
 #[cfg(test)]
 mod tests;
