@@ -33,15 +33,7 @@ pub fn solve<D: Desk>(
     ensures rest { D.sight desk.new ≡ with_output out (output out (D.sight desk.new)) (D.sight desk.old) }
     ensures other { D.faults_in desk.new ≡ D.faults_in desk.old }
 {
-    solve_cut(
-        alloc,
-        problem,
-        &[],
-        problem.goal(),
-        conflicts,
-        desk,
-        out,
-    )
+    solve_cut(alloc, problem, &[], problem.goal(), conflicts, desk, out)
 }
 
 /// Solves the problem whose initial domains are cut by the atoms and whose goal is the one given. It learns
