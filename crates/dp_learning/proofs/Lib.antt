@@ -1,0 +1,5 @@
+pub mod RestLaws
+pub mod LearnedLaws
+pub mod MeetLaws
+pub mod SolutionLaws
+pub mod KeepLaws
