@@ -1,0 +1,6 @@
+//! Solves a model over a desk: its scaffold goes to a file, its solution text is the answer.
+#![tactic(auto)]
+
+mod solving;
+
+pub use solving::solve_model;
