@@ -1,1 +1,6 @@
-
+mod DifferenceLaws
+mod SortLaws
+mod PigeonLaws
+mod AlikeLaws
+mod NewnessLaws
+mod CountingLaws
