@@ -16,7 +16,7 @@ use Rattle.dp_engine.proofs.FailureLaws.{run-within}
 use Rattle.dp_engine.proofs.PlacedLaws.{order-sound}
 use Rattle.dp_engine.proofs.TurnLaws.{turn_at-is}
 use Rattle.dp_parts.specs.Posed.{IsSoundlyPosed, Posed}
-use Rattle.dp_rule_clause.specs.Nogoods.{face_nogood, test_nogood}
+use Rattle.dp_rule_clause.specs.Nogoods.{face_nogood}
 use Rattle.dp_learning.specs.Learning.{AreLearned, IsLearned, IsNew, left_after}
 use Rattle.dp_learning.specs.Sorts.{sort_count}
 use Rattle.dp_learning.proofs.AlikeLaws.{AreAlike, Sort, alike-sym, alike-trans, alike-where, among_sorts, denies-alike, entails-alike, is_of, is_of-itself, sort_of, sorts, sorts-count}

@@ -1,21 +1,21 @@
 -- Where propagation rests, a nogood of which all atoms but those of one sort are entailed denies that sort.
-use Rattle.std.proofs.Common.{◌≡◌, ℕ, true, ◌⊎◌, List, Some, None, ℤ, pos, ◌-ℤ◌, ◌+ℤ◌, ◌≤ℤ◌, refl, sym, ◌∙◌, ap, subst, inl, inr, arith}
+use Rattle.std.proofs.Common.{◌≡◌, ℕ, true, ◌⊎◌, List, None, ℤ, pos, ◌-ℤ◌, ◌+ℤ◌, refl, sym, subst, inl, inr, arith}
 use Rattle.std.proofs.lemmas.Int.{ints}
 use Rattle.std.proofs.lemmas.Bool.{cases_Bool, or_right}
 use Rattle.dp_base.specs.Lists.{Among}
 use Rattle.dp_base.proofs.Lists.{list_all-from}
-use Rattle.dp_domain.specs.Atoms.{Atomic, meets, negated}
-use Rattle.dp_domain.specs.States.{Domains, IsWithin, cut, entails, entails_all, is_dead, values}
+use Rattle.dp_domain.specs.Atoms.{Atomic, negated}
+use Rattle.dp_domain.specs.States.{Domains, IsWithin, cut, entails, entails_all, is_dead}
 use Rattle.dp_domain.specs.Turns.{IsTurn, at_least, at_most, is_permitted}
 use Rattle.dp_domain.specs.declared.atom.Op.{Op}
 use Rattle.dp_domain.specs.declared.atom.Op.TheVariants.{Ge, Le, Eq, Ne}
-use Rattle.dp_domain.proofs.AtomLaws.{le-from_test, meets-eq, meets-ge, meets-le, meets-ne, negated-negated}
+use Rattle.dp_domain.proofs.AtomLaws.{meets-eq, meets-ge, meets-le, meets-ne, negated-negated}
 use Rattle.dp_domain.proofs.StateLaws.{Among-cut_meets, IsWithin-cut, IsWithin-trans, entails-at, entails-cut, entails-from, entails-within}
 use Rattle.dp_domain.proofs.TurnLaws.{gives-from}
 use Rattle.dp_rule_clause.specs.NogoodLaws.{atom_in_scope}
 use Rattle.dp_rule_clause.specs.Nogoods.{face_nogood, point_nogood, scope_of, test_nogood}
 use Rattle.dp_rule_clause.proofs.AtomSteps.{has-among}
-use Rattle.dp_learning.proofs.AlikeLaws.{AreAlike, alike-sym, entails-alike}
+use Rattle.dp_learning.proofs.AlikeLaws.{AreAlike, entails-alike}
 
 -- At a state within the initial domains the nogood gives nothing; u is one of its atoms, and each atom is entailed or of u's sort.
 pub record IsLastSort (initial d : Domains) (nogood : List Atomic) (u : Atomic) : Type 0 where

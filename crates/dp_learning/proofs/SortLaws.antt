@@ -1,5 +1,5 @@
 -- What an atom keeps of the initial values is one of the lists that are counted.
-use Rattle.std.proofs.Common.{◌≡◌, true, false, Bool, not, cond, ◌&&◌, List, [], ◌∷◌, Option, Some, None, ℤ, ◌≤ℤ◌, int_le, refl, sym, ◌∙◌, ap, subst, inl, inr, arith}
+use Rattle.std.proofs.Common.{◌≡◌, true, false, Bool, cond, ◌&&◌, List, [], ◌∷◌, Option, Some, None, ℤ, ◌≤ℤ◌, int_le, refl, sym, ◌∙◌, ap, subst, inl, inr, arith}
 use Rattle.std.specs.List.{filter, flat_map, list_any}
 use Rattle.std.proofs.lemmas.Int.{ints}
 use Rattle.std.proofs.lemmas.Bool.{cases_Bool, not_from_false}
