@@ -67,18 +67,18 @@ among_map f [] x h = absurd h
 among_map f (y ∷ xs) x (inl e) = inl (ap f e)
 among_map f (y ∷ xs) x (inr h) = inr (among_map f xs x h)
 
--- the variable at place k from x on
+-- the variable at a place from x on: at the next one, and at the first
 next : (x k : ℕ) → suc x + k ≡ x + suc k
 next x k = omega arith
 
-here : (x : ℕ) → x ≡ x + zero
-here x = omega arith
+first : (x : ℕ) → x ≡ x + zero
+first x = omega arith
 
 among_sorts_from : (x k : ℕ) (d : Domains) (ks : List ℤ) → k < length d → Among ks (kept_lists (values d k)) → Among (sort (x + k) ks) (sorts_from x d)
 among_sorts_from x k [] ks h m = absurd (omega arith)
 among_sorts_from x zero (vs ∷ d) ks h m =
     Among-append_left (sort (x + zero) ks) (map (sort x) (kept_lists vs)) (sorts_from (suc x) d)
-    (subst (λ n. Among (sort n ks) (map (sort x) (kept_lists vs))) (here x) (among_map (sort x) (kept_lists vs) ks m))
+    (subst (λ n. Among (sort n ks) (map (sort x) (kept_lists vs))) (first x) (among_map (sort x) (kept_lists vs) ks m))
 among_sorts_from x (suc k) (vs ∷ d) ks h m =
     Among-append_right (sort (x + suc k) ks) (map (sort x) (kept_lists vs)) (sorts_from (suc x) d)
     (subst (λ n. Among (sort n ks) (sorts_from (suc x) d)) (next x k) (among_sorts_from (suc x) k d ks (omega arith) m))
@@ -105,9 +105,11 @@ alike-where initial a b e =
     let p = and_parts (b.var == a.var) (same_values (kept_by initial a) (kept_by initial b)) e in
     record { var = sym ((Decides-eqb b.var a.var).0 p.0); kept = same_where (kept_by initial a) (kept_by initial b) p.1 }
 
+-- the other is of the first's sort too
 pub alike-sym : (initial : Domains) (a b : Atomic) → AreAlike initial a b → AreAlike initial b a
 alike-sym initial a b s = record { var = sym s.var; kept = sym s.kept }
 
+-- and so is a third, of the other's sort
 pub alike-trans : (initial : Domains) (a b c : Atomic) → AreAlike initial a b → AreAlike initial b c → AreAlike initial a c
 alike-trans initial a b c s t = record { var = s.var ∙ t.var; kept = s.kept ∙ t.kept }
 

@@ -1,5 +1,5 @@
 -- Items that differ pairwise in what they have of some things are no more than those things have sets.
-use Rattle.std.proofs.Common.{◌≡◌, ℕ, suc, ◌+◌, ◌≤◌, ◌^◌, Bool, true, false, not, cond, ◌⊎◌, List, [], ◌∷◌, ◌++◌, length, append_assoc, pow-suc, refl, sym, ◌∙◌, ap, subst, inl, inr, arith}
+use Rattle.std.proofs.Common.{◌≡◌, ℕ, suc, ◌+◌, ◌≤◌, ◌^◌, Bool, true, false, not, cond, ◌⊎◌, List, [], ◌∷◌, ◌++◌, length, append_assoc, refl, sym, ◌∙◌, ap, subst, inl, inr, arith}
 use Rattle.std.specs.List.{filter}
 use Rattle.std.proofs.lemmas.Bool.{false≢true, true≢false, not-true}
 use Rattle.std.proofs.lemmas.List.Filters.{length-filter_both}
@@ -89,7 +89,7 @@ neither_has has s things items d =
     (λ x y e f. narrow has s things x y (not-true (has s x) e ∙ sym (not-true (has s y) f))) d
 
 twice : (n a b c : ℕ) → a ≤ 2 ^ n → b ≤ 2 ^ n → a + b ≡ c → c ≤ 2 ^ suc n
-twice n a b c h k e = omega (arith, pow-suc 2 n)
+twice n a b c h k e = omega arith
 
 at_most_one : {A B : Type 0} (has : B → A → Bool) (items : List A) → Pairwise (Differ has []) items → length items ≤ 1
 at_most_one has [] d = omega arith
