@@ -50,14 +50,14 @@ pub record IsDescending (p : Csp) (atoms : List Atomic) (e : Propagation) : Type
   pub keeps : KeepsRest (turn_order (posed p) e.nogoods) (cut_all p.initial atoms) e.present
 
 -- a nogood that is learned, each atom once
-pub record IsFound (p : Csp) (nogoods : List (List Atomic)) (atoms : List Atomic) : Type 0 where
+pub record IsLearnable (p : Csp) (nogoods : List (List Atomic)) (atoms : List Atomic) : Type 0 where
   pub learned : IsLearned (posed p) nogoods atoms
   pub once : IsOnce atoms
 
 -- one decision more: there was none; or a nogood is found; or propagation rests again, at fewer values
 abbrev pub IsLevel : Csp → Propagation → List Atomic → Propagation → Level → Type 0
 IsLevel p before atoms now levels.Fixed = IsFixed now.present × (now.present ≡ before.present)
-IsLevel p before atoms now levels.Failed = IsFound p now.nogoods atoms
+IsLevel p before atoms now levels.Failed = IsLearnable p now.nogoods atoms
 IsLevel p before atoms now levels.Rests = IsDescending p atoms now × IsWithin now.present before.present
 
 -- where propagation rests again there are fewer values
@@ -78,7 +78,7 @@ pub record IsReached (p : Csp) (nogoods : List (List Atomic)) (under : List Atom
 -- propagation of the atoms rests; a nogood is found beyond
 pub record IsConflict (p : Csp) (nogoods : List (List Atomic)) (under atoms : List Atomic) : Type 0 where
   pub rests : end_after (posed p) nogoods under ≡ Quiet
-  pub found : IsFound p nogoods atoms
+  pub found : IsLearnable p nogoods atoms
 
 -- propagation of the atoms fails; or the way down under them ends at a solution; or it ends in a conflict
 abbrev pub IsDescent : Csp → List (List Atomic) → List Atomic → Domains → Descent → Type 0

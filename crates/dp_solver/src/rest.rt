@@ -32,12 +32,15 @@ fn counted_run<L: Ledger>(engine: &mut Engine, blank: Blank) -> Result<bool, Mem
     ensures parts { KeepsParts engine.old engine.new }
     ensures states { Extends engine.old engine.new }
 {
+    // What an engine keeps is known by a look at it.
+    let _state = engine.state();
     let mut steps = Steps::<L>::new(blank);
     loop {
         let turn = engine.step(&mut steps)?;
         match turn {
             Turn::Atom(_, _) => {}
-            Turn::Clash(_) | Turn::Empty => return Ok(true),
+            Turn::Clash(_) => return Ok(true),
+            Turn::Empty => return Ok(true),
             Turn::Quiet => return Ok(false),
         }
     }

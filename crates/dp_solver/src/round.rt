@@ -5,7 +5,7 @@ ghost use Rattle.dp_desk.specs.Channel.{Channel};
 ghost use Rattle.dp_desk.specs.Sight.{output, with_output};
 ghost use Rattle.dp_learning.specs.Learning.{Concludes, denial_of};
 ghost use Rattle.dp_parts.specs.Problems.{IsGoalOf, posed};
-ghost use Rattle.dp_solver.specs.Descents.{IsConflict, IsFound, IsReached};
+ghost use Rattle.dp_solver.specs.Descents.{IsConflict, IsLearnable, IsReached};
 ghost use Rattle.dp_solver.specs.Outcomes.{HasWriteCause, SolvesInPart};
 ghost use Rattle.dp_solver.specs.Marks.{asked};
 ghost use Rattle.dp_solver.specs.Rounds.{IsBest, IsRound, IsSearching, IsSolutionAt, claim_of, work};
@@ -131,7 +131,7 @@ fn add<D: Desk>(
     requires few { task.now.most ≤ 4000000000 }
     requires search { IsSearching (asked task.now) task.now.most was (output out (D.sight desk.old)) search.old }
     requires room { search.old.learned < task.now.most }
-    requires atoms { IsFound (asked task.now) search.old.engine.nogoods atoms.items }
+    requires atoms { IsLearnable (asked task.now) search.old.engine.nogoods atoms.items }
     ensures search { OnOk result (IsSearching (asked task.now) task.now.most was (output out (D.sight desk.new)) search.new) }
     ensures count { OnOk result (search.new.learned ≡ search.old.learned + 1) }
     ensures part { OnErr result (SolvesInPart (asked task.now) task.now.most was (output out (D.sight desk.new))) }

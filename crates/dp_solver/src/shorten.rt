@@ -1,7 +1,8 @@
 // Shorter nogoods.
 
-ghost use Rattle.std.specs.Prelude.{◌≡◌, ◌+◌, ◌<◌, ◌++◌, length, take, drop, IfOk, OnOk};
-ghost use Rattle.dp_solver.specs.Descents.{IsFound};
+ghost use Rattle.std.specs.Prelude.{◌≡◌, ◌<◌, length, IfOk, OnOk};
+ghost use Rattle.std.specs.List.{remove};
+ghost use Rattle.dp_solver.specs.Descents.{IsLearnable};
 ghost use Rattle.dp_solver.specs.Marks.{IsOn, asked};
 
 use crate::rest::propagate;
@@ -18,8 +19,8 @@ pub(crate) fn shorten(
     mut atoms: Vec<Atom>,
 ) -> Result<Vec<Atom>, Memory>
     requires engine { IsOn (asked task.now) root engine.old }
-    requires atoms { IsFound (asked task.now) engine.old.nogoods atoms.items }
-    ensures shorter { IfOk result (λ shorter. IsFound (asked task.now) engine.old.nogoods shorter.items) }
+    requires atoms { IsLearnable (asked task.now) engine.old.nogoods atoms.items }
+    ensures shorter { IfOk result (λ shorter. IsLearnable (asked task.now) engine.old.nogoods shorter.items) }
     ensures engine { OnOk result (IsOn (asked task.now) root engine.new) }
     ensures nogoods { engine.new.nogoods ≡ engine.old.nogoods }
 {
@@ -38,7 +39,7 @@ pub(crate) fn shorten(
 /// The atoms without the one at the place.
 fn without(task: &Task, atoms: &[Atom], place: usize) -> Result<Vec<Atom>, Memory>
     requires { place < length atoms.now }
-    ensures { IfOk result (λ others. others.items ≡ take place atoms.now ++ drop (place + 1) atoms.now) }
+    ensures { IfOk result (λ others. others.items ≡ remove atoms.now place) }
 {
     let mut others = atoms.to_vec(task.alloc)?;
     others.remove(place);

@@ -89,6 +89,8 @@ fn start<'p>(task: &Task<'p>) -> Result<Search<'p>, Memory>
     requires goal { IsGoalOf (length task.now.problem.now.initial) task.now.goal }
     ensures { IfOk result (IsFresh (asked task.now)) }
 {
+    // What a problem keeps is known by a look at it.
+    let _goal = task.problem.goal();
     let mut engine = Engine::new(task.alloc, task.problem, &[])?;
     engine.assume(task.atoms)?;
     let root = engine.mark();
