@@ -6,3 +6,4 @@ pub mod DescentSteps
 pub mod WritingSteps
 pub mod GoalSteps
 pub mod RoundSteps
+pub mod TestProblem
