@@ -10,7 +10,6 @@ use Rattle.dp_learning.specs.Learning.{AreLearned, Concludes, denial_of, end_aft
 use Rattle.dp_learning.specs.Scaffolds.{scaffold_of}
 use Rattle.dp_learning.specs.Solutions.{IsSolutionOf, best_claim, open_claim}
 use Rattle.dp_parts.specs.Problems.{Csp, posed}
-use Rattle.dp_parts.specs.declared.goal.Goal.{Goal}
 use Rattle.dp_parts.specs.declared.goal.Goal.TheVariants.{Satisfy}
 use Rattle.dp_solver.specs.declared.outcome.Outcome.{Outcome}
 use Rattle.dp_solver.specs.declared.outcome.Outcome.TheVariants.{Solution, Unsat, Optimal, Unknown}
