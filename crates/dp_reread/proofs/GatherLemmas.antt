@@ -10,6 +10,7 @@ use Rattle.dp_scaffold.specs.declared.refusal.ScaffoldRefusal.{ScaffoldRefusal}
 abbrev pub Gathers : Posed → ℕ → Gathered → List Line → Gathered → Type 0
 Gathers p n g lines later = gather_all p (Ok g) (enumerate_from n lines) ≡ Ok later
 
+-- joined lines are gathered one list after the other
 all_append : (p : Posed) (n : ℕ) (progress : Result Gathered ScaffoldRefusal) (front back : List Line)
     → gather_all p progress (enumerate_from n (front ++ back)) ≡ gather_all p (gather_all p progress (enumerate_from n front)) (enumerate_from (n + length front) back)
 all_append p n progress [] back =

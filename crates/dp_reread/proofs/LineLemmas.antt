@@ -1,14 +1,13 @@
 -- The lines of a written scaffold, one by one: those of defined atoms, a nogood's, and the conclusion's.
-use Rattle.std.proofs.Common.{◌≡◌, ℕ, zero, suc, ◌+◌, ◌<◌, ◌≤◌, Bool, true, false, not, ◌&&◌, cond, Option, Some, None, Ok, is_none, is_some, List, [], ◌∷◌, ◌++◌, length, map, ℤ, pos, negsuc, sym, ap, ◌∙◌, subst, refl, arith}
+use Rattle.std.proofs.Common.{◌≡◌, ℕ, ◌+◌, ◌<◌, ◌≤◌, Bool, true, false, not, ◌&&◌, cond, Option, Some, None, Ok, is_none, is_some, List, [], ◌∷◌, ◌++◌, length, sym, ap, ◌∙◌, refl, arith}
 use Rattle.std.specs.List.{list_all, list_any, sum_by}
 use Rattle.std.specs.Option.{option_map}
 use Rattle.std.proofs.lemmas.List.{length-map}
 use Rattle.std.proofs.lemmas.List.Sums.{sum_by_push}
 use Rattle.dp_base.specs.Lists.{Each}
-use Rattle.dp_base.specs.Names.{named as variable_of}
 use Rattle.dp_checker.specs.Judged.{has_goal, is_bound, or_else}
-use Rattle.dp_checker.specs.Known.{first_undefined, found, literal_atom, literal_atoms}
-use Rattle.dp_domain.specs.Atoms.{Atomic, negated}
+use Rattle.dp_checker.specs.Known.{first_undefined, found, literal_atoms}
+use Rattle.dp_domain.specs.Atoms.{Atomic}
 use Rattle.dp_domain.specs.declared.verdict.Verdict.{Verdict}
 use Rattle.dp_domain.specs.declared.verdict.Verdict.TheVariants.{Unsat, Bound}
 use Rattle.dp_judge.specs.Logs.{IsOfGoal}
@@ -22,9 +21,8 @@ use Rattle.dp_replay.proofs.EntryLemmas.{entries, entries_push, found_behind}
 use Rattle.dp_replay.proofs.StepLemmas.{IsRead, literals_defined, literals_read}
 use Rattle.dp_rule_clause.specs.Nogoods.{IsOnce, each_once}
 use Rattle.dp_scaffold.specs.Gathering.{Gathered, has_room, most_literals, most_nogoods, unless, with_atom, with_claim}
-use Rattle.dp_scaffold.specs.Scaffolds.{nogood_of}
 use Rattle.dp_scaffold.specs.declared.refusal.GatherWhy.TheVariants.{AtomTwice, NoGoal, StepTwice, TooMany, UnknownAtom, UnknownVar, WrongBound}
-use Rattle.dp_writer.specs.Atoms.{Named, defined, named_defined, same}
+use Rattle.dp_writer.specs.Atoms.{Named, named_defined, same}
 use Rattle.dp_writer.specs.Numbering.{line_if_new, new_lines, with_atom as table_with, with_atoms}
 use Rattle.dp_writer.specs.Steps.{atoms_in, atoms_of, definition, line_of_bound, literals_in}
 use Rattle.dp_writer.specs.Written.{bound_of, conclusion, named}
@@ -51,6 +49,7 @@ closed table nogoods places n claim = with_claim (said table nogoods places) n (
 -- ---- defined atoms
 
 module _ (p : Posed) (nogoods : List (List Atomic)) (places : List ℕ) where
+  -- the line of an atom that is new is gathered as the atom with the next number
   defined_once : (table : List Atomic) (n : ℕ) (d : Named) → LeadsTo p d
       → Gathers p n (said table nogoods places) (definition (length table + 1) d ∷ []) (said (table ++ d.atom ∷ []) nogoods places)
   defined_once table n d names =
@@ -83,12 +82,15 @@ module _ (p : Posed) (nogoods : List (List Atomic)) (places : List ℕ) where
 
 module _ (p : Posed) (table : List Atomic) (nogoods : List (List Atomic)) (places : List ℕ) (used : List Named)
     (reads : Each (IsRead table) used) (once : IsOnce (atoms_in used)) where
+  -- a literal for each atom
   same_length : length (literals_in table used) ≡ length (atoms_in used)
   same_length = length-map used _ ∙ sym (length-map used (λ (a : Named). a.atom))
 
+  -- the literals' atoms, each once, are the nogood's
   kept_atoms : each_once (literal_atoms (entries 0 table) (literals_in table used)) ≡ atoms_in used
   kept_atoms = ap each_once (literals_read table used reads) ∙ once_whole (atoms_in used) once
 
+  -- its literals are counted
   more_literals : sum_by length nogoods + length (literals_in table used) ≡ sum_by length (nogoods ++ atoms_in used ∷ [])
   more_literals = ap (λ (k : ℕ). sum_by length nogoods + k) same_length ∙ sym (sum_by_push length nogoods (atoms_in used))
 
@@ -115,6 +117,7 @@ module _ (p : Posed) (table : List Atomic) (nogoods : List (List Atomic)) (place
 
 -- ---- a claim
 
+-- where an atom is a bound on the goal, there is a goal
 has_some : (goal : Goal) (a : Atomic) → is_bound goal a ≡ true → has_goal goal ≡ true
 has_some Satisfy a h = h
 has_some (Minimize x) a h = refl

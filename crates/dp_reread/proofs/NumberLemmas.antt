@@ -1,9 +1,9 @@
 -- The numbers of nogoods, and room for one more.
-use Rattle.std.proofs.Common.{◌≡◌, ℕ, ◌+◌, ◌<◌, ◌≤◌, true, false, ◌&&◌, ◌||◌, List, [], ◌∷◌, ◌++◌, length, nat_eq, nat_le, nat_lt, sym, ap, ◌∙◌, refl, arith}
+use Rattle.std.proofs.Common.{◌≡◌, ℕ, ◌+◌, ◌<◌, ◌≤◌, true, false, ◌&&◌, ◌||◌, List, [], ◌∷◌, ◌++◌, length, nat_eq, nat_le, nat_lt, ap, ◌∙◌, refl, arith}
 use Rattle.std.specs.List.{list_any, sum_by}
 use Rattle.std.proofs.lemmas.Bool.{and_from, ne_eqb}
 use Rattle.std.proofs.lemmas.Bool.Decides.{nat_tests}
-use Rattle.std.proofs.lemmas.List.Sums.{sum_by-append}
+use Rattle.std.proofs.lemmas.List.Sums.{sum_by-append, sum_by-cons}
 use Rattle.std.proofs.lemmas.List.{length-append}
 use Rattle.dp_scaffold.specs.Gathering.{most_literals, most_nogoods}
 
@@ -25,9 +25,11 @@ number_new n m (x ∷ xs) h =
     let rest : list_any (nat_eq m) (numbers (n + 1) xs) ≡ false = number_new (n + 1) m xs (omega arith) in
     λ j. apart j || rest j
 
+-- fewer than the most
 below : (n : ℕ) → n < most_nogoods → nat_lt n most_nogoods ≡ true
 below n h = grind (arith, nat_tests, h)
 
+-- no more than the most
 within : (m : ℕ) → m ≤ most_literals → nat_le m most_literals ≡ true
 within m h = grind (arith, nat_tests, h)
 
@@ -35,9 +37,13 @@ within m h = grind (arith, nat_tests, h)
 pub has_place : (n m : ℕ) → n < most_nogoods → m ≤ most_literals → (nat_lt n most_nogoods && nat_le m most_literals) ≡ true
 has_place n m h k = and_from (nat_lt n most_nogoods) (nat_le m most_literals) (below n h) (within m k)
 
--- so there is for each where all of them are within the limits
+-- where all of them are within the limits, one is not too many
 pub few_so_far : {A : Type 0} (limit : ℕ) (xs : List A) (x : A) (ys : List A) → length (xs ++ x ∷ ys) ≤ limit → length xs < limit
 few_so_far limit xs x ys h = let e : length (xs ++ x ∷ ys) ≡ length xs + length (x ∷ ys) = length-append xs (x ∷ ys) in omega (arith, e, h)
 
+-- and its literals are not too many
 pub small_so_far : {A : Type 0} (f : A → ℕ) (limit : ℕ) (xs : List A) (x : A) (ys : List A) → sum_by f (xs ++ x ∷ ys) ≤ limit → sum_by f xs + f x ≤ limit
-small_so_far f limit xs x ys h = let e : sum_by f (xs ++ x ∷ ys) ≡ sum_by f xs + (f x + sum_by f ys) = sum_by-append f xs (x ∷ ys) in omega (arith, e, h)
+small_so_far f limit xs x ys h =
+    let e : sum_by f (xs ++ x ∷ ys) ≡ sum_by f xs + (f x + sum_by f ys) =
+    sum_by-append f xs (x ∷ ys) ∙ ap (λ (k : ℕ). sum_by f xs + k) (sum_by-cons f x ys) in
+    omega (arith, e, h)

@@ -1,6 +1,6 @@
 -- The bytes of a written scaffold are read as its nogoods and its claim.
-use Rattle.std.proofs.Common.{◌≡◌, ℕ, ◌≤◌, ◌^◌, Option, Some, Ok, Result, List, [], ◌∷◌, ◌++◌, length, sym, ap, ◌∙◌, refl, arith}
-use Rattle.std.specs.List.{enumerate_from, sum_by}
+use Rattle.std.proofs.Common.{◌≡◌, ℕ, ◌≤◌, ◌^◌, Option, Some, Ok, Result, List, [], ◌∷◌, ◌++◌, length, ap, ◌∙◌, refl}
+use Rattle.std.specs.List.{enumerate_from}
 use Rattle.dp_base.specs.Lists.{Each}
 use Rattle.dp_domain.specs.Atoms.{Atomic}
 use Rattle.dp_domain.specs.States.{AreOf}
@@ -11,7 +11,7 @@ use Rattle.dp_learning.specs.Learning.{denial_of}
 use Rattle.dp_learning.specs.Scaffolds.{scaffold_of, steps_of}
 use Rattle.dp_lines.specs.Allowed.{IsAllowed}
 use Rattle.dp_lines.specs.Lines.{Lines, lines as lines_in}
-use Rattle.dp_lines.specs.Logs.{Holds, all_of}
+use Rattle.dp_lines.specs.Logs.{all_of}
 use Rattle.dp_lines.specs.RawLines.{raw_lines}
 use Rattle.dp_lines.specs.Spelling.{fields_text}
 use Rattle.dp_lines.specs.declared.line.Line.{Line}
@@ -24,8 +24,9 @@ use Rattle.dp_scaffold.specs.Texts.{answer_after, give}
 use Rattle.dp_scaffold.specs.declared.refusal.ScaffoldRefusal.{ScaffoldRefusal}
 use Rattle.dp_writer.specs.Steps.{lines}
 use Rattle.dp_reread.specs.Rereading.{IsInLimits, IsReadAs}
-use Rattle.dp_reread.proofs.StepLemmas.{IsWritable, Says, all_say}
+use Rattle.dp_reread.proofs.StepLemmas.{Says, all_say}
 
+-- two facts of each item are one
 both : {A : Type 0} (P Q : A → Type 0) (xs : List A) → Each P xs → Each Q xs → Each (λ x. P x × Q x) xs
 both P Q [] e f = tt
 both P Q (x ∷ xs) e f = ((e.0, f.0), both P Q xs e.1 f.1)
@@ -61,6 +62,7 @@ lines_read p nogoods claim allowed in_limits =
     let ls : List Line = lines (steps_of p nogoods (Some claim)) in
     log_whole limits ls (both IsAllowed (λ line. length (fields_text line) ≤ 2 ^ 24) ls allowed in_limits.short.lines) in_limits.short.text
 
+-- what is written of nogoods and a claim is read as those
 pub rereads : (p : Csp) (nogoods : List (List Atomic)) (claim : Verdict) → IsProblem p → LeadBack p.names → Each (AreOf p.initial) nogoods → Each IsOnce nogoods
     → IsOfGoal p claim → Each IsAllowed (lines (steps_of p nogoods (Some claim))) → IsInLimits p nogoods claim
     → IsReadAs p nogoods claim (scaffold_of p nogoods (Some claim))

@@ -1,5 +1,5 @@
 -- The lines of a written scaffold's steps, behind those of earlier steps.
-use Rattle.std.proofs.Common.{◌≡◌, ℕ, zero, suc, ◌+◌, ◌≤◌, Some, List, [], ◌∷◌, ◌++◌, length, map, ℤ, pos, negsuc, sym, ap, ◌∙◌, subst, refl, append_assoc, arith}
+use Rattle.std.proofs.Common.{◌≡◌, ℕ, zero, suc, ◌+◌, ◌<◌, ◌≤◌, Some, List, [], ◌∷◌, ◌++◌, length, map, ℤ, pos, negsuc, sym, ap, ◌∙◌, subst, refl, append_assoc, arith}
 use Rattle.std.proofs.lemmas.List.{append-nil, length-append}
 use Rattle.std.proofs.lemmas.Grind.{flat_map-append}
 use Rattle.std.specs.List.{flat_map, sum_by}
@@ -35,6 +35,7 @@ use Rattle.dp_reread.proofs.NumberLemmas.{few_so_far, small_so_far}
 
 -- ---- literals
 
+-- a literal is looked up by its number's place
 read_is : (atoms : List Atomic) (l : ℤ) → literal_atom (entries 0 atoms) l ≡ atom_of atoms l
 read_is atoms (pos zero) = found_below 0 0 atoms (omega arith)
 read_is atoms (pos (suc place)) = found_at 0 (suc place) place atoms (omega arith)
@@ -89,8 +90,9 @@ written p nogoods claim = map (λ atoms. nogood p atoms []) nogoods ++ conclusio
 abbrev pub IsWritable : Csp → List Atomic → Type 0
 IsWritable p atoms = AreOf p.initial atoms × IsOnce atoms
 
--- what the nogoods and the claim keep within the limits
+-- the steps behind earlier ones, whose nogoods are done
 module _ (p : Csp) (problem : IsProblem p) (back : LeadBack p.names) (claim : Verdict) (aimed : IsOfGoal p claim) where
+  -- the conclusion says the claim behind all that is done
   last_says : (earlier : List Step) (done : List (List Atomic)) (places : List ℕ) (n : ℕ) → Says p n earlier done places (conclusion p claim ∷ []) done claim
   last_says earlier done places n =
       let step : Step = conclusion p claim in
@@ -107,7 +109,7 @@ module _ (p : Csp) (problem : IsProblem p) (back : LeadBack p.names) (claim : Ve
 
   -- one nogood more is done
   nogood_done : (earlier : List Step) (done : List (List Atomic)) (places : List ℕ) (n : ℕ) (atoms : List Atomic) → IsWritable p atoms
-      → count_of earlier ≡ length done → length done + 1 ≤ most_nogoods → sum_by length done + length atoms ≤ most_literals
+      → count_of earlier ≡ length done → length done < most_nogoods → sum_by length done + length atoms ≤ most_literals
       → (m : ℕ) × Gathers (posed p) n (said (known earlier) done places) (lines_of earlier (nogood p atoms []))
       (said (known (earlier ++ nogood p atoms [] ∷ [])) (done ++ atoms ∷ []) (places ++ m ∷ []))
   nogood_done earlier done places n atoms fit count few small =
@@ -119,10 +121,11 @@ module _ (p : Csp) (problem : IsProblem p) (back : LeadBack p.names) (claim : Ve
       subst (λ (l : List Atomic). sum_by length done + length l ≤ most_literals) (sym same) small in
       let led =
       step_gathers (posed p) earlier done places n step (λ (k : ℕ). said now (done ++ atoms_in used ∷ []) (places ++ k ∷ [])) (nogood_leads p problem back atoms fit.0)
-      (λ k. nogood_gathers (posed p) now done places used (last_read earlier step) (subst IsOnce (sym same) fit.1) k (count_of earlier + 1) (omega (arith, count)) (omega (arith, few)) room) in
+      (λ k. nogood_gathers (posed p) now done places used (last_read earlier step) (subst IsOnce (sym same) fit.1) k (count_of earlier + 1) (omega (arith, count)) few room) in
       let m : ℕ = n + length (new_lines (known earlier) (atoms_of step)) in
       (m, subst (λ (l : List Atomic). Gathers (posed p) n (said (known earlier) done places) (lines_of earlier step) (said now (done ++ l ∷ []) (places ++ m ∷ []))) same led)
 
+  -- more nogoods and the claim are said behind those done
   pub all_say : (earlier : List Step) (done : List (List Atomic)) (places : List ℕ) (n : ℕ) (more : List (List Atomic)) → Each (IsWritable p) more
       → count_of earlier ≡ length done → length (done ++ more) ≤ most_nogoods → sum_by length (done ++ more) ≤ most_literals
       → Says p n earlier done places (written p more claim) (done ++ more) claim
