@@ -1,9 +1,14 @@
+ghost use Rattle.std.specs.Prelude.{◌≡◌, IfOk, None};
+ghost use Rattle.fz_model.specs.declared.model.Item.TheVariants as item;
+
 use super::*;
 use fz_model::{Elements, ModelGoal, Numbers};
 use std::test::Fail;
 
 // A name of these bytes.
-fn named(alloc: Global, bytes: &[u8]) -> Result<Name, Memory> {
+fn named(alloc: Global, bytes: &[u8]) -> Result<Name, Memory>
+    ensures { IfOk result (λ name. name ≡ bytes.now) }
+{
     Ok(Name::new(bytes.to_vec(alloc)?))
 }
 
@@ -14,7 +19,9 @@ fn variable(
     kind: VarType,
     output: bool,
     var: u32,
-) -> Result<Item, Memory> {
+) -> Result<Item, Memory>
+    ensures { IfOk result (λ i. i ≡ item.Var name.now kind output None var) }
+{
     Ok(Item::Var {
         name: named(alloc, name)?,
         kind,
@@ -94,44 +101,69 @@ fn marked_variables_are_printed(rt: HostRuntime) -> Result<(), Fail> {
     Ok(())
 }
 
+// An integer parameter.
+fn integer(alloc: Global, name: &[u8], value: i64) -> Result<Item, Memory> {
+    Ok(Item::Int {
+        name: named(alloc, name)?,
+        value,
+    })
+}
+
+// A Boolean parameter.
+fn truth(alloc: Global, name: &[u8], value: bool) -> Result<Item, Memory> {
+    Ok(Item::Bool {
+        name: named(alloc, name)?,
+        value,
+    })
+}
+
 #[test]
-fn arrays_are_printed(rt: HostRuntime) -> Result<(), Fail> {
+fn an_array_of_integers_is_printed(rt: HostRuntime) -> Result<(), Fail> {
     let alloc = rt.alloc();
+    let elements = [
+        Basic::Item(1),
+        Basic::Item(0),
+        Basic::Int(1),
+        Basic::Item(0),
+    ];
     let items = [
         variable(alloc, b"x", VarType::Range(-9, 9), false, 0)?,
-        variable(alloc, b"p", VarType::Bool, false, 1)?,
-        Item::Int {
-            name: named(alloc, b"n")?,
-            value: -12,
-        },
-        Item::Bool {
-            name: named(alloc, b"t")?,
-            value: true,
-        },
+        integer(alloc, b"n", -12)?,
         array(
             alloc,
             b"grid",
             VarType::Range(-20, 20),
             &[(-1, 0), (1, 2)],
-            &[
-                Basic::Item(2),
-                Basic::Item(0),
-                Basic::Int(1),
-                Basic::Item(0),
-            ],
+            &elements,
         )?,
-        array(
-            alloc,
-            b"flags",
-            VarType::Bool,
-            &[(0, 2)],
-            &[Basic::Bool(false), Basic::Item(3), Basic::Item(1)],
-        )?,
-        array(alloc, b"none", VarType::Int, &[(1, 0)], &[])?,
     ];
-    let lines =
-        b"grid = array2d(-1..0, 1..2, [-12, 3, 1, 3]);\nflags = array1d(0..2, [false, true, true]);\nnone = array1d(1..0, []);\n";
-    assert_eq!(rt; prints(alloc, &items, &[3, 1], lines)?, true);
+    let lines = b"grid = array2d(-1..0, 1..2, [-12, 3, 1, 3]);\n";
+    assert_eq!(rt; prints(alloc, &items, &[3], lines)?, true);
+    Ok(())
+}
+
+#[test]
+fn an_array_of_booleans_is_printed(rt: HostRuntime) -> Result<(), Fail> {
+    let alloc = rt.alloc();
+    let elements = [Basic::Bool(false), Basic::Item(1), Basic::Item(0)];
+    let items = [
+        variable(alloc, b"p", VarType::Bool, false, 0)?,
+        truth(alloc, b"t", true)?,
+        array(alloc, b"flags", VarType::Bool, &[(0, 2)], &elements)?,
+    ];
+    let lines = b"flags = array1d(0..2, [false, true, false]);\n";
+    assert_eq!(rt; prints(alloc, &items, &[0], lines)?, true);
+    Ok(())
+}
+
+#[test]
+fn an_empty_array_is_printed(rt: HostRuntime) -> Result<(), Fail> {
+    let alloc = rt.alloc();
+    let items = [array(alloc, b"none", VarType::Int, &[(1, 0)], &[])?];
+    assert_eq!(rt;
+        prints(alloc, &items, &[], b"none = array1d(1..0, []);\n")?,
+        true
+    );
     Ok(())
 }
 
