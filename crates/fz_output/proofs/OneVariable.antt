@@ -1,7 +1,7 @@
 -- The smallest model that prints a line: one variable, which is marked.
-use Rattle.std.proofs.Common.{◌≡◌, List, [], ◌∷◌, true, false, None, refl, sym, subst, inl, inr, codes, rules, arith}
+use Rattle.std.proofs.Common.{◌≡◌, List, [], ◌∷◌, true, false, None, refl, sym, subst, inl, inr, codes, arith}
 use Rattle.std.specs.Prelude.{pos}
-use Rattle.fz_model.specs.Models.{IsModel, Plan}
+use Rattle.fz_model.specs.Models.{IsModel}
 use Rattle.fz_model.specs.ModelText.{ModelWords}
 use Rattle.fz_model.specs.declared.model.Constraint.{Constraint}
 use Rattle.fz_model.specs.declared.model.Item.{Item}
