@@ -3,5 +3,5 @@ use Rattle.std.specs.Prelude.{ℕ, List, [], ℤ}
 use Rattle.fz_model.specs.Models.{Plan}
 
 -- the lines of the marked variables and arrays
-abbrev pub solution_lines : Plan → List ℤ → List ℕ
-solution_lines m numbers = []
+abbrev pub solution_lines : Plan → (ℕ → ℤ) → List ℕ
+solution_lines m s = []
