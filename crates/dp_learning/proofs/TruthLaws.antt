@@ -1,5 +1,5 @@
 -- What is learned and claimed is true: no run takes a solution away.
-use Rattle.std.proofs.Common.{◌≡◌, ℕ, ◌+◌, ◌<◌, true, false, List, [], ◌∷◌, ◌++◌, length, ℤ, refl, sym, ◌∙◌, ap, subst, inl, inr, append_assoc}
+use Rattle.std.proofs.Common.{◌≡◌, ℕ, ◌+◌, ◌<◌, true, false, List, [], ◌∷◌, ◌++◌, length, Some, ℤ, refl, sym, ◌∙◌, subst, inl, inr, append_assoc}
 use Rattle.std.specs.List.{list_all}
 use Rattle.std.proofs.lemmas.Bool.{both_ways, cases_Bool, false≢true}
 use Rattle.std.proofs.lemmas.List.{append-nil}
@@ -92,8 +92,8 @@ met-follows p nogoods s atoms sound of_it solves met e all =
 -- ---- what is learned
 
 some_fails : (s : ℕ → ℤ) (atoms : List Atomic) → (((a : Atomic) → Among a atoms → meets a (s a.var) ≡ true) → ⊥) → MeetsNogood atoms s
-some_fails s atoms no = elim (cases_Bool (list_all (λ (a : Atomic). meets a (s a.var)) atoms)) [
-  | inl e ↦ absurd (no (λ a h. list_all-at (λ (b : Atomic). meets b (s b.var)) atoms a e h))
+some_fails s atoms none = elim (cases_Bool (list_all (λ (a : Atomic). meets a (s a.var)) atoms)) [
+  | inl e ↦ absurd (none (λ a h. list_all-at (λ (b : Atomic). meets b (s b.var)) atoms a e h))
   | inr e ↦ list_all-fails (λ (a : Atomic). meets a (s a.var)) atoms e
 ]
 
