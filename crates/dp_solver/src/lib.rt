@@ -2,7 +2,7 @@
 #![tactic(auto)]
 
 mod outcome;
-mod solve;
+mod solving;
 
 pub use outcome::{Outcome, SolveFault};
-pub use solve::{solve, solve_cut};
+pub use solving::{solve, solve_cut};
