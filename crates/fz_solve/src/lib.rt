@@ -5,3 +5,6 @@ mod printing;
 mod solving;
 
 pub use solving::solve_model;
+
+#[cfg(test)]
+mod tests;
