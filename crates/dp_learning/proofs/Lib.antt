@@ -1,1 +1,6 @@
 pub mod TruthLaws
+pub mod RestLaws
+pub mod LearnedLaws
+pub mod MeetLaws
+pub mod SolutionLaws
+pub mod KeepLaws
