@@ -11,7 +11,6 @@ use Rattle.fz_model.specs.declared.model.VarType.TheVariants as type
 use Rattle.fz_sat.specs.Meaning.{is_on}
 use Rattle.fz_sat.specs.Satisfies.{value_of}
 
-<<<<<<< HEAD
 -- ---- values
 
 abbrev pub truth_text : Bool → List ℕ
@@ -68,8 +67,3 @@ item_line items s _ = []
 -- the lines of a model's items at an assignment, in order of declaration
 abbrev pub solution_lines : Plan → (ℕ → ℤ) → List ℕ
 solution_lines m s = flat_map (item_line m.items s) m.items
-=======
--- the lines of the marked variables and arrays
-abbrev pub solution_lines : Plan → (ℕ → ℤ) → List ℕ
-solution_lines m s = []
->>>>>>> 57af4afa74e7e4efabf45c817c870b0ee51c7672

@@ -9,7 +9,7 @@ use Rattle.dp_domain.specs.declared.verdict.Verdict.{Verdict}
 use Rattle.dp_domain.specs.declared.verdict.Verdict.TheVariants.{Bound}
 use Rattle.dp_domain.proofs.AtomLaws.{le-from_test}
 use Rattle.dp_learning.specs.Learning.{AreLearned}
-use Rattle.dp_learning.specs.Solutions.{assigned, best_claim}
+use Rattle.dp_learning.specs.Solutions.{best_claim}
 use Rattle.dp_learning.proofs.TruthLaws.{concluded-bound, concluded-none}
 use Rattle.dp_lower.specs.Problem.{goal_in, problem_of, variable_in}
 use Rattle.dp_parts.specs.ProblemLaws.{solution_solves, soundly_posed}
@@ -25,7 +25,7 @@ use Rattle.fz_model.specs.declared.model.Item.{Item}
 use Rattle.fz_model.specs.declared.model.ModelGoal.{ModelGoal}
 use Rattle.fz_model.specs.declared.model.ModelGoal.TheVariants.{Satisfy, Minimize, Maximize}
 use Rattle.fz_sat.specs.Args.{term_of}
-use Rattle.fz_sat.specs.Satisfies.{Satisfies, goal_value}
+use Rattle.fz_sat.specs.Satisfies.{Satisfies, goal_value, valuation}
 use Rattle.fz_solve.specs.Solved.{IsAsGood, IsTruth}
 
 -- ---- the objective
@@ -50,32 +50,32 @@ ordered v w x y e f m = subst (λ z. z ≤ℤ w) (sym e) (subst (λ z. x ≤ℤ 
 
 -- where an assignment meets the bound at the best numbers, its objective is no better
 as_good : (items : List Item) (g : ModelGoal) (numbers : List ℤ) (bound : Atomic) (s : ℕ → ℤ) (v w : ℤ) → IsGoal items g → best_claim (goal_in items g) numbers ≡ Bound bound → meets bound (s bound.var) ≡ true
-    → goal_value items (assigned numbers) g ≡ Some v → goal_value items s g ≡ Some w → IsAsGood g v w
+    → goal_value items (valuation numbers) g ≡ Some v → goal_value items s g ≡ Some w → IsAsGood g v w
 as_good items Satisfy numbers bound s v w h e m f g = tt
 as_good items (Minimize place) numbers bound s v w h e m f g =
     let t : Term = term_of items (basic.Item place) in
     let x : ℕ = variable_in t in
-    ordered v w (assigned numbers x) (s x) (value_at (assigned numbers) (count_variables items) t v h f) (value_at s (count_variables items) t w h g)
-    (met_by (at_least x (assigned numbers x)) bound s e m)
+    ordered v w (valuation numbers x) (s x) (value_at (valuation numbers) (count_variables items) t v h f) (value_at s (count_variables items) t w h g)
+    (met_by (at_least x (valuation numbers x)) bound s e m)
 as_good items (Maximize place) numbers bound s v w h e m f g =
     let t : Term = term_of items (basic.Item place) in
     let x : ℕ = variable_in t in
-    ordered w v (s x) (assigned numbers x) (value_at s (count_variables items) t w h g) (value_at (assigned numbers) (count_variables items) t v h f)
-    (met_by (at_most x (assigned numbers x)) bound s e m)
+    ordered w v (s x) (valuation numbers x) (value_at s (count_variables items) t w h g) (value_at (valuation numbers) (count_variables items) t v h f)
+    (met_by (at_most x (valuation numbers x)) bound s e m)
 
 -- ---- the outcome
 
 -- what the outcome of a model's problem says is so of the model
 pub truth_of : (m : Plan) (p : Csp) (most : ℕ) (nogoods : List (List Atomic)) (claim : Option Verdict) (outcome : Outcome) → IsModel m → IsProblem p → p ≡ problem_of m
     → ((s : ℕ → ℤ) → Satisfies m s ↔ IsSolution s p) → AreLearned (posed p) nogoods → IsOutcome p most nogoods claim outcome → IsTruth m outcome
-truth_of m p most nogoods claim (Solution numbers) model kept is same learned o = (same (assigned numbers)).1 o.solution.solves
+truth_of m p most nogoods claim (Solution numbers) model kept is same learned o = (same (valuation numbers)).1 o.solution.solves
 truth_of m p most nogoods claim Unsat model kept is same learned o =
     λ s sat. concluded-none (posed p) nogoods s (soundly_posed p kept) learned o.follows (solution_solves p s ((same s).0 sat))
 truth_of m p most nogoods claim (Optimal numbers bound) model kept is same learned o = record {
-  satisfies = (same (assigned numbers)).1 o.solution.solves;
+  satisfies = (same (valuation numbers)).1 o.solution.solves;
   best = λ s v w sat f g.
       as_good m.items m.goal numbers bound s v w (well_formed m model).goal (subst (λ (q : Csp). best_claim q.goal numbers ≡ Bound bound) is o.bound)
       (concluded-bound (posed p) nogoods s bound (soundly_posed p kept) learned o.follows (solution_solves p s ((same s).0 sat))) f g;
 }
 truth_of m p most nogoods claim (Unknown None) model kept is same learned o = tt
-truth_of m p most nogoods claim (Unknown (Some numbers)) model kept is same learned o = (same (assigned numbers)).1 o.solution.solves
+truth_of m p most nogoods claim (Unknown (Some numbers)) model kept is same learned o = (same (valuation numbers)).1 o.solution.solves
