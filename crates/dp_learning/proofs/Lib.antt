@@ -4,3 +4,9 @@ pub mod LearnedLaws
 pub mod MeetLaws
 pub mod SolutionLaws
 pub mod KeepLaws
+mod DifferenceLaws
+mod SortLaws
+mod PigeonLaws
+mod AlikeLaws
+mod NewnessLaws
+mod CountingLaws
