@@ -4,6 +4,9 @@ ghost use Rattle.std.specs.Prelude.{ℕ, map, MatchOption};
 ghost use Rattle.dp_command.specs.Asked.{asked};
 ghost use Rattle.dp_command.specs.Words.{AreNoCommand, IsCount, Spells};
 
+#[cfg(test)]
+mod tests;
+
 // The most nogoods that a solve learns, where no option says another number.
 const USUAL_CONFLICTS: u64 = 1_000_000;
 
