@@ -1,10 +1,10 @@
 -- What is left to do where the inputs were read and judged, and what a search ends with.
-use Rattle.std.specs.Prelude.{◌≡◌, ◌⊎◌, ℕ, ◌≤◌, List, Option, string_bytes}
+use Rattle.std.specs.Prelude.{◌≡◌, ◌⊎◌, ℕ, List, Option, string_bytes}
 use Rattle.dp_desk.specs.Causes.{Rose}
 use Rattle.dp_desk.specs.Channel.{Files}
 use Rattle.dp_desk.specs.Sight.{Sight}
 use Rattle.fz_solve.specs.Solved.{Solved, SolvesFront}
-use Rattle.dp_command.specs.Due.{AreAtEnd, LeavesUnread}
+use Rattle.dp_command.specs.Due.{LeavesUnread}
 use Rattle.dp_command.specs.Found.{IsProblemOf}
 use Rattle.dp_command.specs.Proved.{IsSound}
 use Rattle.dp_command.specs.Replies.{IsGiven, Replies}

@@ -38,7 +38,7 @@ pub(crate) fn check<D: Desk>(
     ensures other { D.faults_out desk.new ≡ D.faults_out desk.old }
 {
     match read_problem(alloc, model, desk)? {
-        Found::Problem(_, problem) => judge_input(alloc, &problem, log, desk),
+        Found::Problem(_model, problem) => judge_input(alloc, &problem, log, desk),
         Found::Refusal(refusal) => Ok(Reply::ModelRefused(refusal)),
     }
 }

@@ -49,7 +49,7 @@ pub(crate) fn process<D: Desk>(
     ensures other { D.faults_out desk.new ≡ D.faults_out desk.old }
 {
     match read_problem(alloc, model, desk)? {
-        Found::Problem(_, problem) => {
+        Found::Problem(_model, problem) => {
             let outcome = process_input(alloc, &problem, scaffold, out, desk)?;
             Ok(Reply::Processed(outcome))
         }

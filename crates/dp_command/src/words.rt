@@ -2,7 +2,7 @@
 
 ghost use Rattle.std.specs.Prelude.{ℕ, map, MatchOption};
 ghost use Rattle.dp_command.specs.Asked.{asked};
-ghost use Rattle.dp_command.specs.Words.{AreNoCommand, IsCount, Spells};
+ghost use Rattle.dp_command.specs.Words.{AreNoCommand, AreOptions, IsCount, Spells};
 
 #[cfg(test)]
 mod tests;
@@ -64,12 +64,7 @@ pub fn read_words<'a>(words: &[&'a str]) -> Option<Command<'a>>
             scaffold,
             out,
         }),
-        ["solve", model, out] => Some(Command::Solve {
-            model,
-            out,
-            conflicts: USUAL_CONFLICTS,
-        }),
-        ["solve", model, out, "--conflicts", digits] => match count_of(digits) {
+        ["solve", model, out, options @ ..] => match conflicts_of(options) {
             Some(conflicts) => Some(Command::Solve {
                 model,
                 out,
@@ -77,6 +72,17 @@ pub fn read_words<'a>(words: &[&'a str]) -> Option<Command<'a>>
             }),
             None => None,
         },
+        _ => None,
+    }
+}
+
+// The most nogoods that the options of a solve allow. None exactly where they are no options of it.
+fn conflicts_of(options: &[&str]) -> Option<u64>
+    ensures { let texts = map (λ w. w.now) options.now in MatchOption result ((most : ℕ) → AreOptions texts most → ⊥) (AreOptions texts) }
+{
+    match options {
+        [] => Some(USUAL_CONFLICTS),
+        ["--conflicts", digits] => count_of(digits),
         _ => None,
     }
 }
