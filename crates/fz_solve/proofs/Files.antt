@@ -1,6 +1,6 @@
 -- What solving leaves of the file and of the answer.
-use Rattle.std.proofs.Common.{◌≡◌, ◌⊎◌, ◌×◌, ℕ, ◌≤◌, List, [], ◌∷◌, ◌++◌, length, Option, Some, None, Result, refl, sym, ◌∙◌, ap, subst, inl, inr, arith}
-use Rattle.std.specs.Prelude.{IfSome}
+use Rattle.std.proofs.Common.{◌≡◌, ◌⊎◌, ℕ, ◌≤◌, List, [], ◌∷◌, ◌++◌, length, Option, Some, None, Result, refl, sym, ◌∙◌, ap, subst, inl, inr, arith}
+use Rattle.std.specs.Prelude.{IfOk, OnErr, OnOk, Ok, Err}
 use Rattle.std.proofs.lemmas.List.{append-nil}
 use Rattle.dp_desk.specs.Channel.{Channel, Shut, Hidden, Shown, Grows, GrowsByPart, IsOpen, Starts}
 use Rattle.dp_desk.specs.Sight.{Sight, with_output}
@@ -96,7 +96,7 @@ first_kept : (middle now : Sight) → now ≡ with_output Out.Answer now.answer 
 first_kept middle now e = ap (λ (t : Sight). t.first) e
 
 -- both written whole
-pub solved_of : (m : Plan) (p : Csp) (most status : ℕ) (was middle now : Sight) (outcome : Outcome) → middle ≡ with_output Out.First middle.first was → now ≡ with_output Out.Answer now.answer middle
+solved_of : (m : Plan) (p : Csp) (most status : ℕ) (was middle now : Sight) (outcome : Outcome) → middle ≡ with_output Out.First middle.first was → now ≡ with_output Out.Answer now.answer middle
     → HoldsAll p most middle.first outcome → Grows middle.answer now.answer (outcome_text m outcome) → status ≡ outcome_status outcome → IsTruth m outcome → Solved m p most status was now
 solved_of m p most status was middle now outcome one two h told stands truth = record {
   outcome = outcome;
@@ -110,6 +110,13 @@ solved_of m p most status was middle now outcome one two h told stands truth = r
   stands = stands;
   truth = truth;
 }
+
+-- so it is where the answer's status is that of the outcome
+pub solved_ok : (m : Plan) (p : Csp) (most : ℕ) (was middle now : Sight) (outcome : Outcome) (result : Result ℕ SolveFault) → middle ≡ with_output Out.First middle.first was → now ≡ with_output Out.Answer now.answer middle
+    → HoldsAll p most middle.first outcome → IsTruth m outcome → OnOk result (Grows middle.answer now.answer (outcome_text m outcome)) → IfOk result (λ status. status ≡ outcome_status outcome)
+    → IfOk result (λ status. Solved m p most status was now)
+solved_ok m p most was middle now outcome (Ok status) one two h truth told stands = solved_of m p most status was middle now outcome one two h told stands truth
+solved_ok m p most was middle now outcome (Err e) one two h truth told stands = tt
 
 -- the file written whole, and a front of the answer
 pub told_part : (m : Plan) (p : Csp) (most : ℕ) (was middle now : Sight) (outcome : Outcome) → middle ≡ with_output Out.First middle.first was → now ≡ with_output Out.Answer now.answer middle
@@ -138,3 +145,8 @@ rest_of was middle now one two =
 -- the count of faults behind a call that left it
 pub cause_behind : {T : Type 0} (before between later : ℕ) (result : Result T SolveFault) → between ≡ before → HasWriteCause between later result → HasWriteCause before later result
 cause_behind before between later result e h = subst (λ n. HasWriteCause n later result) e h
+
+-- where the fact holds it holds on an error
+pub on_err : {T E : Type 0} (result : Result T E) (X : Type 0) → X → OnErr result X
+on_err (Ok v) X x = tt
+on_err (Err e) X x = x
