@@ -1,23 +1,18 @@
 -- What solving leaves of the file and of the answer.
-use Rattle.std.proofs.Common.{◌≡◌, ◌⊎◌, ℕ, ◌≤◌, List, [], ◌∷◌, ◌++◌, length, Option, Some, None, Result, refl, sym, ◌∙◌, ap, subst, inl, inr, arith}
+use Rattle.std.proofs.Common.{◌≡◌, ℕ, List, [], ◌∷◌, ◌++◌, None, Result, refl, sym, ◌∙◌, ap, subst, inl, arith}
 use Rattle.std.specs.Prelude.{IfOk, OnErr, OnOk, Ok, Err}
-use Rattle.std.proofs.lemmas.List.{append-nil}
 use Rattle.dp_desk.specs.Channel.{Channel, Shut, Hidden, Shown, Grows, GrowsByPart, IsOpen, Starts}
 use Rattle.dp_desk.specs.Sight.{Sight, with_output}
 use Rattle.dp_desk.specs.declared.desk.Out.TheVariants as Out
 use Rattle.dp_desk.proofs.Channels.{grows_by_none}
 use Rattle.dp_domain.specs.Atoms.{Atomic}
-use Rattle.dp_domain.specs.declared.verdict.Verdict.{Verdict}
-use Rattle.dp_learning.specs.Learning.{AreLearned, Concludes}
 use Rattle.dp_learning.specs.Scaffolds.{scaffold_of}
-use Rattle.dp_parts.specs.Posed.{Posed}
-use Rattle.dp_parts.specs.Problems.{Csp, posed}
-use Rattle.dp_solver.specs.Outcomes.{HasWriteCause, IsOutcome, Solves, SolvesInPart}
+use Rattle.dp_parts.specs.Problems.{Csp}
 use Rattle.dp_solver.specs.declared.outcome.Outcome.{Outcome}
 use Rattle.dp_solver.specs.declared.outcome.SolveFault.{SolveFault}
 use Rattle.fz_model.specs.Models.{Plan}
 use Rattle.fz_solve.specs.Printed.{outcome_status, outcome_text}
-use Rattle.fz_solve.specs.Solved.{FilesFront, Holds, HoldsAll, HoldsFront, IsTruth, Solved, SolvedPart, SolvesFront}
+use Rattle.fz_solve.specs.Solved.{FilesFront, Holds, HoldsAll, HoldsFront, IsTruth, Solved}
 
 -- ---- a file
 
