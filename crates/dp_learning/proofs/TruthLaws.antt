@@ -1,5 +1,5 @@
 -- What is learned and claimed is true: no run takes a solution away.
-use Rattle.std.proofs.Common.{◌≡◌, ℕ, ◌+◌, ◌<◌, true, false, List, [], ◌∷◌, ◌++◌, length, Some, ℤ, refl, sym, ◌∙◌, subst, inl, inr, append_assoc}
+use Rattle.std.proofs.Common.{◌≡◌, ℕ, ◌+◌, ◌<◌, true, List, [], ◌∷◌, ◌++◌, length, Some, ℤ, refl, sym, ◌∙◌, subst, inl, inr, append_assoc}
 use Rattle.std.specs.List.{list_all}
 use Rattle.std.proofs.lemmas.Bool.{both_ways, cases_Bool, false≢true}
 use Rattle.std.proofs.lemmas.List.{append-nil}
@@ -9,7 +9,6 @@ use Rattle.dp_domain.specs.Atoms.{Atomic, meets, negated}
 use Rattle.dp_domain.specs.Faces.{Covers}
 use Rattle.dp_domain.specs.States.{AreOf, Domains, LiesIn, cut, cut_all, is_dead}
 use Rattle.dp_domain.specs.Turns.{IsTurn, gives}
-use Rattle.dp_domain.specs.declared.verdict.Verdict.{Verdict}
 use Rattle.dp_domain.specs.declared.verdict.Verdict.TheVariants.{Unsat, Bound}
 use Rattle.dp_domain.proofs.StateLaws.{LiesIn-alive, LiesIn-cut, LiesIn-cut_all, LiesIn-either, length-cut, length-cut_all}
 use Rattle.dp_domain.proofs.TurnLaws.{gives-parts}

@@ -1,5 +1,5 @@
 -- What an outcome says is true of the model.
-use Rattle.std.proofs.Common.{◌≡◌, ℕ, true, ◌↔◌, ℤ, ◌≤ℤ◌, int_le, List, Option, Some, None, sym, ap, subst}
+use Rattle.std.proofs.Common.{◌≡◌, ℕ, true, ◌↔◌, ℤ, ◌≤ℤ◌, int_le, List, Option, Some, None, sym, subst}
 use Rattle.dp_domain.specs.Atoms.{Atomic, meets}
 use Rattle.dp_domain.specs.Terms.{term_at}
 use Rattle.dp_domain.specs.Turns.{at_least, at_most}

@@ -1,3 +1,5 @@
+ghost use Rattle.std.specs.Prelude.{◌≤◌};
+
 use super::*;
 use dp_base::Memory;
 use dp_desk::{MemoryDesk, Out};
