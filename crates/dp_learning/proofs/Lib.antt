@@ -1,3 +1,4 @@
+pub mod TruthLaws
 pub mod RestLaws
 pub mod LearnedLaws
 pub mod MeetLaws
