@@ -1,6 +1,6 @@
 -- What solving leaves of the file and of the answer.
-use Rattle.std.proofs.Common.{◌≡◌, ◌⊎◌, ◌×◌, ℕ, ◌≤◌, List, [], ◌∷◌, ◌++◌, length, Option, Some, None, Result, refl, sym, ◌∙◌, ap, subst, inl, inr, arith}
-use Rattle.std.specs.Prelude.{IfSome}
+use Rattle.std.proofs.Common.{◌≡◌, ◌⊎◌, ℕ, ◌≤◌, List, [], ◌∷◌, ◌++◌, length, Option, Some, None, Result, refl, sym, ◌∙◌, ap, subst, inl, inr, arith}
+use Rattle.std.specs.Prelude.{IfOk, OnErr, OnOk, Ok, Err}
 use Rattle.std.proofs.lemmas.List.{append-nil}
 use Rattle.dp_desk.specs.Channel.{Channel, Shut, Hidden, Shown, Grows, GrowsByPart, IsOpen, Starts}
 use Rattle.dp_desk.specs.Sight.{Sight, with_output}
@@ -65,27 +65,6 @@ unopened p most was now e = record {
   file = inl e;
 }
 
--- a file that was opened, and then written by the solver
-pub cut_file : (p : Csp) (most : ℕ) (was started now : Channel) → Starts started → SolvesInPart p most started now → FilesFront p most was now
-cut_file p most was started now s h = record {
-  nogoods = h.nogoods;
-  claim = h.claim;
-  learned = h.learned;
-  few = h.few;
-  follows = h.follows;
-  file = inr (front_of started now (scaffold_of p h.nogoods h.claim) s h.written);
-}
-
-pub whole_file : (p : Csp) (most : ℕ) (started now : Channel) (outcome : Outcome) → Starts started → Solves p most started now outcome → HoldsAll p most now outcome
-whole_file p most started now outcome s h = record {
-  nogoods = h.nogoods;
-  claim = h.claim;
-  learned = h.learned;
-  few = h.few;
-  outcome_is = h.outcome;
-  file = holds_of started now (scaffold_of p h.nogoods h.claim) s h.written;
-}
-
 -- ---- the answer
 
 -- where the file is written first, the answer is as it was, and the file is not changed by the answer
@@ -96,7 +75,7 @@ first_kept : (middle now : Sight) → now ≡ with_output Out.Answer now.answer 
 first_kept middle now e = ap (λ (t : Sight). t.first) e
 
 -- both written whole
-pub solved_of : (m : Plan) (p : Csp) (most status : ℕ) (was middle now : Sight) (outcome : Outcome) → middle ≡ with_output Out.First middle.first was → now ≡ with_output Out.Answer now.answer middle
+solved_of : (m : Plan) (p : Csp) (most status : ℕ) (was middle now : Sight) (outcome : Outcome) → middle ≡ with_output Out.First middle.first was → now ≡ with_output Out.Answer now.answer middle
     → HoldsAll p most middle.first outcome → Grows middle.answer now.answer (outcome_text m outcome) → status ≡ outcome_status outcome → IsTruth m outcome → Solved m p most status was now
 solved_of m p most status was middle now outcome one two h told stands truth = record {
   outcome = outcome;
@@ -111,30 +90,14 @@ solved_of m p most status was middle now outcome one two h told stands truth = r
   truth = truth;
 }
 
--- the file written whole, and a front of the answer
-pub told_part : (m : Plan) (p : Csp) (most : ℕ) (was middle now : Sight) (outcome : Outcome) → middle ≡ with_output Out.First middle.first was → now ≡ with_output Out.Answer now.answer middle
-    → HoldsAll p most middle.first outcome → GrowsByPart middle.answer now.answer (outcome_text m outcome) → SolvesFront m p most was now
-told_part m p most was middle now outcome one two h told = inr (record {
-  outcome = outcome;
-  nogoods = h.nogoods;
-  claim = h.claim;
-  learned = h.learned;
-  few = h.few;
-  outcome_is = h.outcome_is;
-  file = subst (λ c. Holds c (scaffold_of p h.nogoods h.claim)) (sym (first_kept middle now two)) h.file;
-  told = subst (λ c. GrowsByPart c now.answer (outcome_text m outcome)) (answer_kept was middle one) told;
-})
+-- so it is where the answer's status is that of the outcome
+pub solved_ok : (m : Plan) (p : Csp) (most : ℕ) (was middle now : Sight) (outcome : Outcome) (result : Result ℕ SolveFault) → middle ≡ with_output Out.First middle.first was → now ≡ with_output Out.Answer now.answer middle
+    → HoldsAll p most middle.first outcome → IsTruth m outcome → OnOk result (Grows middle.answer now.answer (outcome_text m outcome)) → IfOk result (λ status. status ≡ outcome_status outcome)
+    → IfOk result (λ status. Solved m p most status was now)
+solved_ok m p most was middle now outcome (Ok status) one two h truth told stands = solved_of m p most status was middle now outcome one two h told stands truth
+solved_ok m p most was middle now outcome (Err e) one two h truth told stands = tt
 
--- a front of the file, and nothing told
-pub filed_part : (m : Plan) (p : Csp) (most : ℕ) (was now : Sight) → now ≡ with_output Out.First now.first was → FilesFront p most was.first now.first → SolvesFront m p most was now
-filed_part m p most was now e h = inl (h, answer_kept was now e)
-
--- all else of the desk is as it was
-pub rest_of : (was middle now : Sight) → middle ≡ with_output Out.First middle.first was → now ≡ with_output Out.Answer now.answer middle
-    → now ≡ with_output Out.Answer now.answer (with_output Out.First now.first was)
-rest_of was middle now one two =
-    two ∙ ap (with_output Out.Answer now.answer) one ∙ ap (λ c. with_output Out.Answer now.answer (with_output Out.First c was)) (sym (first_kept middle now two))
-
--- the count of faults behind a call that left it
-pub cause_behind : {T : Type 0} (before between later : ℕ) (result : Result T SolveFault) → between ≡ before → HasWriteCause between later result → HasWriteCause before later result
-cause_behind before between later result e h = subst (λ n. HasWriteCause n later result) e h
+-- where the fact holds it holds on an error
+pub on_err : {T E : Type 0} (result : Result T E) (X : Type 0) → X → OnErr result X
+on_err (Ok v) X x = tt
+on_err (Err e) X x = x

@@ -1,5 +1,5 @@
 -- What a solved model leaves of a desk, and that what it prints is true of the model.
-use Rattle.std.specs.Prelude.{◌≡◌, ◌⊎◌, ◌×◌, ℕ, ◌≤◌, List, ◌++◌, length, IfSome, Option, Some, ℤ, ◌≤ℤ◌}
+use Rattle.std.specs.Prelude.{◌≡◌, ◌⊎◌, ℕ, ◌≤◌, List, ◌++◌, length, IfSome, Option, Some, ℤ, ◌≤ℤ◌}
 use Rattle.dp_desk.specs.Channel.{Channel, Grows, GrowsByPart, Shut, Hidden, Shown}
 use Rattle.dp_desk.specs.Sight.{Sight}
 use Rattle.dp_domain.specs.Atoms.{Atomic}
