@@ -1,5 +1,6 @@
 -- Each nogood of a scaffold that a solver wrote follows, the conclusion's too.
-use Rattle.std.proofs.Common.{◌≡◌, ℕ, zero, suc, ◌+◌, ◌<◌, ◌≤◌, true, ◌⊎◌, List, [], ◌∷◌, ◌++◌, length, take, drop, refl, sym, ◌∙◌, ap, subst, inl, inr, arith, length-append}
+use Rattle.std.proofs.Common.{◌≡◌, ℕ, zero, suc, ◌+◌, ◌<◌, true, List, [], ◌∷◌, ◌++◌, length, take, drop, refl, sym, ◌∙◌, ap, subst, inl, inr, arith, length-append}
+use Rattle.std.proofs.lemmas.Bool.{cases_lt}
 use Rattle.std.proofs.lemmas.List.{get_or_append_left, take-append-le}
 use Rattle.std.proofs.Math.Seq.{get_or-append_seam, take-append_seam}
 use Rattle.dp_domain.specs.Atoms.{Atomic}
@@ -15,10 +16,7 @@ split_at [] place h = absurd (omega arith)
 split_at (n ∷ ns) zero h = refl
 split_at (n ∷ ns) (suc place) h = ap (λ ms. n ∷ ms) (split_at ns place (omega arith))
 
--- a place of a list with one more is one of the list, or the last
-last_or : (place count : ℕ) → place < count + 1 → (place < count) ⊎ (place ≡ count)
-last_or place count h = omega arith
-
+-- what is the same follows too
 follows_by : (p : Posed) (before others : List (List Atomic)) (nogood other : List Atomic) → others ≡ before → other ≡ nogood → follows p before nogood ≡ true → follows p others other ≡ true
 follows_by p before others nogood other e f h = ap (λ ms. follows p ms other) e ∙ ap (follows p before) f ∙ h
 
@@ -41,7 +39,7 @@ module _ (p : Posed) (nogoods : List (List Atomic)) (last : List Atomic) (learne
   pub each_follows : EachMetFollows p (nogoods ++ last ∷ [])
   each_follows place h met =
       let count : length (nogoods ++ last ∷ []) ≡ length nogoods + 1 = length-append nogoods (last ∷ []) in
-      elim (last_or place (length nogoods) (omega (arith, h, count))) [
+      elim (cases_lt place (length nogoods)) [
         | inl k ↦ earlier place k
-        | inr e ↦ at_end place e
+        | inr k ↦ at_end place (omega (arith, h, count))
       ]

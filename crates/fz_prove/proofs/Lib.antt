@@ -1,3 +1,2 @@
 pub mod Followed
-pub mod Ended
 pub mod Proven

@@ -1,5 +1,5 @@
 -- What becomes of the scaffold of an outcome.
-use Rattle.std.proofs.Common.{◌≡◌, ℕ, ◌<◌, ◌≤◌, Bool, true, ◌&&◌, List, [], ◌∷◌, ◌++◌, length, Option, Some, None, ℤ, ◌↔◌, refl, sym, ◌∙◌, ap, subst, eq-eqb}
+use Rattle.std.proofs.Common.{◌≡◌, ℕ, ◌<◌, true, List, length, Option, Some, None, ℤ, ◌↔◌, sym, ◌∙◌, ap, subst, arith}
 use Rattle.dp_base.specs.Lists.{Each}
 use Rattle.dp_checker.specs.Judged.{is_bound}
 use Rattle.dp_desk.specs.Channel.{Channel, Shown}

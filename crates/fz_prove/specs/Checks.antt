@@ -1,5 +1,5 @@
 -- What the steps of proving a model leave.
-use Rattle.std.specs.Prelude.{◌≡◌, ◌×◌, ℕ, ◌≤◌, List, length, Option}
+use Rattle.std.specs.Prelude.{◌≡◌, ℕ, ◌≤◌, List, length, Option}
 use Rattle.dp_base.specs.Lists.{Each}
 use Rattle.dp_desk.specs.Channel.{Channel}
 use Rattle.dp_domain.specs.Atoms.{Atomic}
