@@ -1,8 +1,8 @@
 -- The reply for a model that was read and a log that was judged.
-use Rattle.std.specs.Prelude.{◌≡◌, ℕ, ◌≤◌, nat_le, Bool, true, false, if◌then◌else◌, Option, Some, Result, Ok, Err, IfOk, List}
+use Rattle.std.specs.Prelude.{◌≡◌, ℕ, ◌≤◌, ◌<◌, length, nat_le, Bool, true, false, if◌then◌else◌, Option, Some, Result, Ok, Err, IfOk, List}
 use Rattle.std.proofs.Common.{refl, sym, ap, subst, arith}
 use Rattle.std.proofs.lemmas.Bool.Decides.{nat_tests}
-use Rattle.dp_desk.specs.Channel.{Files, IsAtEnd}
+use Rattle.dp_desk.specs.Channel.{Channel, Files, IsAtEnd}
 use Rattle.dp_desk.specs.Sight.{Sight, with_input}
 use Rattle.dp_desk.specs.declared.desk.In.TheVariants as In
 use Rattle.dp_show.specs.declared.shown.Shown.{Shown}
@@ -15,10 +15,10 @@ use Rattle.fz_items.specs.declared.refusal.ModelRefusal.{ModelRefusal}
 use Rattle.fz_items.specs.declared.refusal.ModelRefusal.TheVariants.{Limit}
 use Rattle.fz_model.specs.Models.{Plan}
 use Rattle.dp_command.specs.Due.{LeavesUnread}
-use Rattle.dp_command.specs.Found.{IsFound, IsProblemFound, IsProblemOf}
-use Rattle.dp_command.specs.Proved.{IsSound}
-use Rattle.dp_command.specs.Replies.{IsGiven, IsJudged, JudgesLog, Replies, model_of, reply_of}
-use Rattle.dp_command.specs.Words.{Request, Check, words_of}
+use Rattle.dp_command.specs.Found.{IsFound, IsFoundIn, IsProblemFound, IsProblemOf}
+use Rattle.dp_command.specs.Proved.{IsSound, IsSoundTo}
+use Rattle.dp_command.specs.Replies.{IsGiven, IsJudged, JudgesLog, Replies, RepliesTo, model_of, reply_of}
+use Rattle.dp_command.specs.Words.{Request, Check, Spells}
 use Rattle.dp_command.specs.declared.finding.Found.{Found}
 use Rattle.dp_command.specs.declared.finding.Found.TheVariants.{Problem, Refusal}
 use Rattle.dp_command.specs.declared.outcome.Outcome.{Outcome}
@@ -42,6 +42,14 @@ by_limit size false answer m k e = absurd (late answer m e)
 -- a text that spells a model is within its limit
 pub model_small : (size : ℕ) (answer : Result Plan ModelRefusal) (m : Plan) → within_limit size answer ≡ Ok m → size ≤ max_bytes
 model_small size answer m e = by_limit size (nat_le size max_bytes) answer m refl e
+
+-- so where a problem is found all of the text was read
+pub found_ended : (what : Found) (text : List ℕ) (now : Channel) → IsFoundIn text what → (length text < 67108865 → IsAtEnd now) → IsProblemFound what → IsAtEnd now
+found_ended (Problem m p) text now h end k = end (below (length text) (model_small (length text) _ m h.spelled))
+  where
+    below : (n : ℕ) → n ≤ max_bytes → n < 67108865
+    below n e = omega (arith, e)
+found_ended (Refusal refusal) text now h end k = absurd k
 
 -- ---- the reply
 
@@ -75,41 +83,41 @@ due_by names words p a (ShownLog shown) e j = absurd (no_shown p a shown e)
 due_by names words p a (Processed o) e j = absurd (no_outcome p a o e)
 
 -- a model was read that poses this problem
-pub given_of : (names : Option Files) (model : List ℕ) (p : Csp) (f : IsFound names model (Problem p)) → IsGiven names model f.found.m
-given_of names model p f = record { text = f.text; read = f.read; spelled = f.found.spelled }
+pub given_of : (names : Option Files) (model : List ℕ) (m : Plan) (p : Csp) → IsFound names model (Problem m p) → IsGiven names model m
+given_of names model m p f = record { text = f.text; read = f.read; spelled = f.found.spelled }
 
 -- the reply for the log belongs to the words
-due_of : (names : Option Files) (model log : List ℕ) (p : Csp) (reply : Reply) → IsFound names model (Problem p) → IsJudged names log p reply →
-    Replies names (words_of (Check model log)) reply
-due_of names model log p reply f j =
-    due_by names (words_of (Check model log)) p _ reply j.replied (record {
+due_of : (names : Option Files) (model log : List ℕ) (m : Plan) (p : Csp) (reply : Reply) → IsFound names model (Problem m p) → IsJudged names log p reply →
+    RepliesTo names (Check model log) reply
+due_of names model log m p reply f j = λ words asked.
+    due_by names words p _ reply j.replied (record {
       model = model;
       log = log;
-      asked = refl;
-      m = f.found.m;
-      given = given_of names model p f;
+      asked = asked;
+      m = m;
+      given = given_of names model m p f;
       judged = subst (λ (q : Csp). IsJudged names log q reply) f.found.problem.posed j;
     })
 
 -- so does that for a refused model
 pub refused_of : (names : Option Files) (request : Request) (model : List ℕ) (refusal : ModelRefusal) → model_of request ≡ Some model → IsFound names model (Refusal refusal) →
-    Replies names (words_of request) (ModelRefused refusal)
-refused_of names request model refusal e f =
-    record { request = request; asked = refl; model = model; named = e; text = f.text; read = f.read; refused = f.found }
+    RepliesTo names request (ModelRefused refusal)
+refused_of names request model refusal e f = λ words asked.
+    record { request = request; asked = asked; model = model; named = e; text = f.text; read = f.read; refused = f.found }
 
-sound_by : (names : Option Files) (model log : List ℕ) (m : Plan) (p : Csp) (a : LogAnswer) (reply : Reply) → IsGiven names model m → IsProblemOf m p →
-    reply ≡ reply_of p a → IsRightAnswer p a → IsGoalAnswer p a → IsSound names (words_of (Check model log)) reply
-sound_by names model log m p (answer.Accepted v) reply given problem e right goal =
-    subst (λ (r : Reply). IsSound names (words_of (Check model log)) r) (sym e)
-    (record { model = model; log = log; asked = refl; m = m; given = given; holds = problem.true_of v right goal })
-sound_by names model log m p (answer.Unread r) reply given problem e right goal = subst (λ (q : Reply). IsSound names (words_of (Check model log)) q) (sym e) tt
-sound_by names model log m p (answer.Refused r t) reply given problem e right goal = subst (λ (q : Reply). IsSound names (words_of (Check model log)) q) (sym e) tt
+sound_by : (names : Option Files) (words : List (List ℕ)) (model log : List ℕ) (m : Plan) (p : Csp) (a : LogAnswer) (reply : Reply) → Spells (Check model log) words → IsGiven names model m →
+    IsProblemOf m p → reply ≡ reply_of p a → IsRightAnswer p a → IsGoalAnswer p a → IsSound names words reply
+sound_by names words model log m p (answer.Accepted v) reply asked given problem e right goal =
+    subst (λ (r : Reply). IsSound names words r) (sym e)
+    (record { model = model; log = log; asked = asked; m = m; given = given; holds = problem.true_of v right goal })
+sound_by names words model log m p (answer.Unread r) reply asked given problem e right goal = subst (λ (q : Reply). IsSound names words q) (sym e) tt
+sound_by names words model log m p (answer.Refused r t) reply asked given problem e right goal = subst (λ (q : Reply). IsSound names words q) (sym e) tt
 
 -- what is accepted is true of the model
-sound_of : (names : Option Files) (model log : List ℕ) (p : Csp) (reply : Reply) → IsFound names model (Problem p) → IsJudged names log p reply →
-    IsSound names (words_of (Check model log)) reply
-sound_of names model log p reply f j =
-    sound_by names model log f.found.m p _ reply (given_of names model p f) f.found.problem j.replied j.right j.goal
+sound_of : (names : Option Files) (model log : List ℕ) (m : Plan) (p : Csp) (reply : Reply) → IsFound names model (Problem m p) → IsJudged names log p reply →
+    IsSoundTo names (Check model log) reply
+sound_of names model log m p reply f j = λ words asked.
+    sound_by names words model log m p _ reply asked (given_of names model m p f) f.found.problem j.replied j.right j.goal
 
 -- an answer's fact follows from another
 pub if_ok : {A E : Type 0} {P Q : A → Type 0} (r : Result A E) → ((x : A) → P x → Q x) → IfOk r P → IfOk r Q
@@ -129,18 +137,18 @@ unread_of names log p reply was now j = unread_by p _ reply was now j.replied
 
 -- ---- the same names, before and after the model was read
 
-pub due_at : (names later : Option Files) (model log : List ℕ) (p : Csp) (reply : Reply) (what : Found) → later ≡ names → what ≡ Problem p → IsFound names model what →
-    IsJudged later log p reply → Replies names (words_of (Check model log)) reply
-due_at names later model log p reply what same is f j =
-    due_of names model log p reply (subst (λ (w : Found). IsFound names model w) is f) (subst (λ (n : Option Files). IsJudged n log p reply) same j)
+pub due_at : (names later : Option Files) (model log : List ℕ) (m : Plan) (p : Csp) (reply : Reply) (what : Found) → later ≡ names → what ≡ Problem m p → IsFound names model what →
+    IsJudged later log p reply → RepliesTo names (Check model log) reply
+due_at names later model log m p reply what same is f j =
+    due_of names model log m p reply (subst (λ (w : Found). IsFound names model w) is f) (subst (λ (n : Option Files). IsJudged n log p reply) same j)
 
-pub sound_at : (names later : Option Files) (model log : List ℕ) (p : Csp) (reply : Reply) (what : Found) → later ≡ names → what ≡ Problem p → IsFound names model what →
-    IsJudged later log p reply → IsSound names (words_of (Check model log)) reply
-sound_at names later model log p reply what same is f j =
-    sound_of names model log p reply (subst (λ (w : Found). IsFound names model w) is f) (subst (λ (n : Option Files). IsJudged n log p reply) same j)
+pub sound_at : (names later : Option Files) (model log : List ℕ) (m : Plan) (p : Csp) (reply : Reply) (what : Found) → later ≡ names → what ≡ Problem m p → IsFound names model what →
+    IsJudged later log p reply → IsSoundTo names (Check model log) reply
+sound_at names later model log m p reply what same is f j =
+    sound_of names model log m p reply (subst (λ (w : Found). IsFound names model w) is f) (subst (λ (n : Option Files). IsJudged n log p reply) same j)
 
 -- both inputs are at their ends
-pub ended_at : (p : Csp) (what : Found) (middle now : Sight) → what ≡ Problem p → now ≡ with_input In.Log now.log middle → (IsProblemFound what → IsAtEnd middle.model) →
+pub ended_at : (m : Plan) (p : Csp) (what : Found) (middle now : Sight) → what ≡ Problem m p → now ≡ with_input In.Log now.log middle → (IsProblemFound what → IsAtEnd middle.model) →
     IsAtEnd now.log → IsAtEnd now.model × IsAtEnd now.log
-ended_at p what middle now is same model log =
+ended_at m p what middle now is same model log =
     (subst IsAtEnd (sym (ap (λ (t : Sight). t.model) same)) (model (subst (λ (w : Found). IsProblemFound w) (sym is) tt)), log)

@@ -84,6 +84,7 @@ true_claim m h same (Bound a) right goal = record {
 pub problem_is : (m : Plan) (p : Csp) → IsModel m → p ≡ problem_of m → ((s : ℕ → ℤ) → Satisfies m s ↔ IsSolution s p) → IsProblemOf m p
 problem_is m p model posed same = record {
   posed = posed;
+  same = same;
   true_of =
       subst (λ (q : Csp). ((s : ℕ → ℤ) → Satisfies m s ↔ IsSolution s q) → (v : Verdict) → IsRight q v → IsOfGoal q v → IsTrueOf m (claim_of q v)) (sym posed)
       (true_claim m (well_formed m model).goal) same;

@@ -4,3 +4,5 @@ pub mod Checks
 pub mod Shows
 pub mod Processes
 pub mod Says
+pub mod Solves
+pub mod Tasks

@@ -20,15 +20,16 @@ use Rattle.dp_scaffold.specs.declared.answer.ScaffoldAnswer.{ScaffoldAnswer}
 use Rattle.dp_scaffold.specs.declared.answer.ScaffoldAnswer.TheVariants as answer
 use Rattle.dp_scaffold.specs.declared.refusal.ScaffoldRefusal.{ScaffoldRefusal}
 use Rattle.dp_writer.specs.Steps as steps
+use Rattle.fz_model.specs.Models.{Plan}
 use Rattle.dp_command.proofs.Checks.{given_of}
 use Rattle.dp_command.proofs.Requests.{check_is_no_process, show_is_no_process}
 use Rattle.dp_command.specs.Due.{Holds, IsFiled}
 use Rattle.dp_command.specs.Found.{IsFound}
 use Rattle.dp_command.specs.Outcomes.{IsDone, IsOutcome}
 use Rattle.dp_command.specs.Proved.{FilesProof}
-use Rattle.dp_command.specs.Replies.{IsProcessed, ProcessesScaffold, Replies}
+use Rattle.dp_command.specs.Replies.{IsProcessed, ProcessesScaffold, Replies, RepliesTo}
 use Rattle.dp_command.specs.Texts.{file_of, outcome_file, outcome_status, status_of}
-use Rattle.dp_command.specs.Words.{Process, IsProcess, words_of}
+use Rattle.dp_command.specs.Words.{Process, IsProcess}
 use Rattle.dp_command.specs.declared.finding.Found.{Found}
 use Rattle.dp_command.specs.declared.finding.Found.TheVariants.{Problem}
 use Rattle.dp_command.specs.declared.outcome.Done.{Done}
@@ -76,24 +77,24 @@ outcome_ended p out lines now o h end e = ended_by p out lines now o h end e
 
 -- ---- the reply
 
-due_of : (names : Option Files) (model scaffold out : List ℕ) (p : Csp) (o : Outcome) → IsFound names model (Problem p) → IsProcessed names scaffold out p o →
-    Replies names (words_of (Process model scaffold out)) (Processed o)
-due_of names model scaffold out p o f h =
+due_of : (names : Option Files) (model scaffold out : List ℕ) (m : Plan) (p : Csp) (o : Outcome) → IsFound names model (Problem m p) → IsProcessed names scaffold out p o →
+    RepliesTo names (Process model scaffold out) (Processed o)
+due_of names model scaffold out m p o f h = λ words asked.
     record {
       model = model;
       scaffold = scaffold;
       out = out;
-      asked = refl;
-      m = f.found.m;
-      given = given_of names model p f;
+      asked = asked;
+      m = m;
+      given = given_of names model m p f;
       processed = subst (λ (q : Csp). IsProcessed names scaffold out q o) f.found.problem.posed h;
     }
 
 -- the reply for the scaffold belongs to the words
-pub outcome_at : (names later : Option Files) (model scaffold out : List ℕ) (p : Csp) (o : Outcome) (what : Found) → later ≡ names → what ≡ Problem p → IsFound names model what →
-    IsProcessed later scaffold out p o → Replies names (words_of (Process model scaffold out)) (Processed o)
-outcome_at names later model scaffold out p o what same is f h =
-    due_of names model scaffold out p o (subst (λ (w : Found). IsFound names model w) is f) (subst (λ (n : Option Files). IsProcessed n scaffold out p o) same h)
+pub outcome_at : (names later : Option Files) (model scaffold out : List ℕ) (m : Plan) (p : Csp) (o : Outcome) (what : Found) → later ≡ names → what ≡ Problem m p → IsFound names model what →
+    IsProcessed later scaffold out p o → RepliesTo names (Process model scaffold out) (Processed o)
+outcome_at names later model scaffold out m p o what same is f h =
+    due_of names model scaffold out m p o (subst (λ (w : Found). IsFound names model w) is f) (subst (λ (n : Option Files). IsProcessed n scaffold out p o) same h)
 
 -- ---- what was written
 

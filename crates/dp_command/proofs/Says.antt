@@ -1,6 +1,6 @@
 -- What a reply leaves of a desk where it is handed over.
 use Rattle.std.specs.Prelude.{◌≡◌, ◌≢◌, ℕ, ◌≤◌, Option, Some, None, List, [], ◌++◌, ◌⊎◌}
-use Rattle.std.proofs.Common.{refl, sym, ◌∙◌, ap, subst, inl, inr, arith}
+use Rattle.std.proofs.Common.{refl, sym, ◌∙◌, ap, subst, inl, inr, arith, lit≤}
 use Rattle.dp_desk.specs.Channel.{Channel, Shut, Hidden, Shown, Files, Grows, GrowsByPart, IsOpen, Starts}
 use Rattle.dp_desk.specs.Causes.{Rose}
 use Rattle.dp_desk.specs.Sight.{Sight, with_output}
@@ -8,12 +8,13 @@ use Rattle.dp_desk.specs.declared.desk.Out.TheVariants as Out
 use Rattle.dp_desk.proofs.Channels.{grows_by_none}
 use Rattle.dp_show.specs.declared.shown.Refusal.{Refusal as ShowRefusal}
 use Rattle.dp_command.proofs.Processes.{proof_of}
-use Rattle.dp_command.proofs.Requests.{process_is_no_check, show_is_no_check}
-use Rattle.dp_command.specs.Due.{AreAtEnd, ChangesInputs, ChangesOutputs, Holds, HoldsFront, IsCut, IsFiled, ReadsToEnd, Said, SaidPart, Writes, WritesPart}
+use Rattle.dp_command.proofs.Requests.{process_is_no_check, show_is_no_check, solve_is_no_check, solve_is_no_process, solve_is_no_show}
+use Rattle.dp_command.specs.Due.{AreAtEnd, ChangesInputs, ChangesOutputs, Holds, HoldsFront, IsCut, IsFiled, LeavesUnread, ReadsToEnd, Said, SaidPart, Writes, WritesPart}
 use Rattle.dp_command.specs.Proved.{FilesProof, IsSound, SaysTruth}
 use Rattle.dp_command.specs.Replies.{Replies}
+use Rattle.dp_command.specs.Solving.{IsSolved}
 use Rattle.dp_command.specs.Texts.{file_of, outcome_file, outcome_status, read_fault, shown_status, status_of, text_of}
-use Rattle.dp_command.specs.Words.{Request, Check, Show, Process, IsCheck, IsProcess}
+use Rattle.dp_command.specs.Words.{Request, Check, Show, Process, Solve, IsCheck, IsProcess, IsSolve}
 use Rattle.dp_command.specs.declared.outcome.Outcome.{Outcome}
 use Rattle.dp_command.specs.declared.outcome.Outcome.TheVariants as outcome
 use Rattle.dp_command.specs.declared.reply.Reply.{Reply}
@@ -123,6 +124,48 @@ moved_part file text was middle now same w = record {
 not_six : (n : ℕ) → n ≤ 4 → n ≡ 6 → ⊥
 not_six n e f = omega (arith, e, f)
 
+beyond : (n m : ℕ) → n ≤ 3 → n ≡ m → 4 ≤ m → ⊥
+beyond n m e f g = omega (arith, e, f, g)
+
+-- the status of a reply is at most 3
+status_small : (reply : Reply) → status_of reply ≤ 3
+status_small NoCommand = lit≤ tt
+status_small (ModelRefused refusal) = lit≤ tt
+status_small (Accepted claim) = lit≤ tt
+status_small (Unread refusal) = lit≤ tt
+status_small (Refused refusal told) = lit≤ tt
+status_small (ShownLog shown) = shown_small shown.refusal
+  where
+    shown_small : (refusal : Option ShowRefusal) → shown_status refusal ≤ 3
+    shown_small None = lit≤ tt
+    shown_small (Some refusal) = lit≤ tt
+status_small (Processed o) = outcome_small o
+  where
+    outcome_small : (o : Outcome) → outcome_status o ≤ 3
+    outcome_small (outcome.Done done) = lit≤ tt
+    outcome_small (outcome.Unread refusal) = lit≤ tt
+    outcome_small (outcome.Refused refusal text) = lit≤ tt
+    outcome_small (outcome.NotFollowing failing) = lit≤ tt
+
+-- what is handed over ends with no other status but 6
+pub handed_small : (reply : Reply) (text : List ℕ) (file : Option (List ℕ)) (was now : Sight) (r before later : ℕ) → WasHanded r (status_of reply) file text was now before later → (r ≤ 3) ⊎ (r ≡ 6)
+handed_small reply text file was now r before later (inl h) = inl (subst (λ (n : ℕ). n ≤ 3) (sym h.0) (status_small reply))
+handed_small reply text file was now r before later (inr h) = inr h.0
+
+pub not_seven : (r : ℕ) → (r ≤ 3) ⊎ (r ≡ 6) → r ≡ 7 → ⊥
+not_seven r (inl e) f = omega (arith, e, f)
+not_seven r (inr e) f = omega (arith, e, f)
+
+not_four : (r : ℕ) → (r ≤ 3) ⊎ (r ≡ 6) → r ≡ 4 → ⊥
+not_four r (inl e) f = omega (arith, e, f)
+not_four r (inr e) f = omega (arith, e, f)
+
+six_not_zero : (r : ℕ) → r ≡ 6 → r ≡ 0 → ⊥
+six_not_zero r e f = omega (arith, e, f)
+
+pub three_small : (n : ℕ) → n ≤ 3 → n ≤ 4
+three_small n e = omega (arith, e)
+
 pub zero_small : (n : ℕ) → n ≡ 0 → n ≤ 4
 zero_small n e = omega (arith, e)
 
@@ -153,6 +196,58 @@ truth_said names words reply was middle now r text before later same due sound t
     (moved (file_of reply) (text_of reply) was middle now same (subst (λ (t : List ℕ). Writes (file_of reply) t middle now) tx h.1)).told
 truth_said names words reply was middle now r text before later same due sound tx (inr h) e check = absurd (not_six r (zero_small r e) h.0)
 
+unsolved_by : (names : Option Files) (words : List (List ℕ)) (reply : Reply) → Replies names words reply → IsSolve words → status_of reply ≡ 0 → ⊥
+unsolved_by names words NoCommand due solve e = absurd cc
+unsolved_by names words (ModelRefused refusal) due solve e = absurd cc
+unsolved_by names words (Accepted claim) due solve e = solve_is_no_check words due.model due.log solve due.asked
+unsolved_by names words (Unread refusal) due solve e = absurd cc
+unsolved_by names words (Refused refusal told) due solve e = absurd cc
+unsolved_by names words (ShownLog shown) due solve e = solve_is_no_show words due.log solve due.asked
+unsolved_by names words (Processed o) due solve e = solve_is_no_process words due.model due.scaffold due.out solve due.asked
+
+-- no reply is said of a model that was solved
+pub unsolved : (names : Option Files) (words : List (List ℕ)) (reply : Reply) (was now : Sight) (r : ℕ) (text : List ℕ) (before later : ℕ) →
+    Replies names words reply → WasHanded r (status_of reply) (file_of reply) text was now before later → IsSolved words r → ⊥
+unsolved names words reply was now r text before later due (inl h) (inl e) = beyond (status_of reply) 4 (status_small reply) (sym h.0 ∙ e) (lit≤ tt)
+unsolved names words reply was now r text before later due (inl h) (inr e) = unsolved_by names words reply due e.1 (sym h.0 ∙ e.0)
+unsolved names words reply was now r text before later due (inr h) (inl e) = not_four r (inr h.0) e
+unsolved names words reply was now r text before later due (inr h) (inr e) = six_not_zero r h.0 e.0
+
+-- the inputs that words which are no command do not ask for are as they were
+unread_by : (reply : Reply) (was now : Sight) → status_of reply ≡ 2 → LeavesUnread reply was now → (now.model ≡ was.model) × (now.log ≡ was.log)
+unread_by NoCommand was now e h = h
+unread_by (ModelRefused refusal) was now e h = absurd cc
+unread_by (Accepted claim) was now e h = absurd cc
+unread_by (Unread refusal) was now e h = absurd cc
+unread_by (Refused refusal told) was now e h = absurd cc
+unread_by (ShownLog shown) was now e h = absurd (not_shown shown.refusal e)
+  where
+    not_shown : (refusal : Option ShowRefusal) → shown_status refusal ≡ 2 → ⊥
+    not_shown None e = cc
+    not_shown (Some refusal) e = cc
+unread_by (Processed o) was now e h = absurd (not_processed o e)
+  where
+    not_processed : (o : Outcome) → outcome_status o ≡ 2 → ⊥
+    not_processed (outcome.Done done) e = cc
+    not_processed (outcome.Unread refusal) e = cc
+    not_processed (outcome.Refused refusal text) e = cc
+    not_processed (outcome.NotFollowing failing) e = cc
+
+six_not_two : (r : ℕ) → r ≡ 6 → r ≡ 2 → ⊥
+six_not_two r e f = omega (arith, e, f)
+
+pub unread_said : (reply : Reply) (was middle now : Sight) (r : ℕ) (file : Option (List ℕ)) (text : List ℕ) (before later : ℕ) →
+    now ≡ with_output Out.Answer now.answer (with_output Out.First now.first middle) → LeavesUnread reply was middle → WasHanded r (status_of reply) file text middle now before later → r ≡ 2 →
+    (now.model ≡ was.model) × (now.log ≡ was.log)
+unread_said reply was middle now r file text before later rest unread (inl h) e =
+    let both = unread_by reply was middle (sym h.0 ∙ e) unread in
+    (ap (λ (t : Sight). t.model) rest ∙ both.0, ap (λ (t : Sight). t.log) rest ∙ both.1)
+unread_said reply was middle now r file text before later rest unread (inr h) e = absurd (six_not_two r h.0 e)
+
+pub not_five : (r : ℕ) → (r ≤ 3) ⊎ (r ≡ 6) → r ≡ 5 → ⊥
+not_five r (inl e) f = omega (arith, e, f)
+not_five r (inr e) f = omega (arith, e, f)
+
 -- and the processed log stands in the file
 pub filed_said : (names : Option Files) (words : List (List ℕ)) (was now : Sight) (r : ℕ) → Said names words r was now → IsProcess words → r ≡ 0 → FilesProof names words now.first
 filed_said names words was now r said process e = proof_of names words said.reply was.first now.first said.due process (sym said.stands ∙ e) said.written.filed
@@ -163,36 +258,24 @@ still_at_end : (request : Request) (middle : Sight) (first answer : Channel) →
 still_at_end (Check model log) middle first answer h = h
 still_at_end (Show log) middle first answer h = h
 still_at_end (Process model scaffold out) middle first answer h = h
+still_at_end (Solve model out most) middle first answer h = h
+
+-- what was read to its end before the outputs is so behind them
+pub still_read : (words : List (List ℕ)) (middle now : Sight) → now ≡ with_output Out.Answer now.answer (with_output Out.First now.first middle) → ReadsToEnd words middle → ReadsToEnd words now
+still_read words middle now same read =
+    record { request = read.request; asked = read.asked; ended = subst (AreAtEnd read.request) (sym same) (still_at_end read.request middle now.first now.answer read.ended) }
 
 -- at status 0 the inputs were read to their ends before
 pub ended_said : (words : List (List ℕ)) (reply : Reply) (middle now : Sight) (r : ℕ) (file : Option (List ℕ)) (text : List ℕ) (before later : ℕ) →
     now ≡ with_output Out.Answer now.answer (with_output Out.First now.first middle) → (status_of reply ≡ 0 → ReadsToEnd words middle) →
     WasHanded r (status_of reply) file text middle now before later → r ≡ 0 → ReadsToEnd words now
-ended_said words reply middle now r file text before later same ended (inl h) e =
-    let read = ended (sym h.0 ∙ e) in
-    record { request = read.request; asked = read.asked; ended = subst (AreAtEnd read.request) (sym same) (still_at_end read.request middle now.first now.answer read.ended) }
+ended_said words reply middle now r file text before later same ended (inl h) e = still_read words middle now same (ended (sym h.0 ∙ e))
 ended_said words reply middle now r file text before later same ended (inr h) e = absurd (not_six r (zero_small r e) h.0)
 
 -- ---- a failed write
 
 no_fault : (reply : Reply) → status_of reply ≡ 6 → ⊥
-no_fault NoCommand e = absurd cc
-no_fault (ModelRefused refusal) e = absurd cc
-no_fault (Accepted claim) e = absurd cc
-no_fault (Unread refusal) e = absurd cc
-no_fault (Refused refusal told) e = absurd cc
-no_fault (ShownLog shown) e = not_shown shown.refusal e
-  where
-    not_shown : (refusal : Option ShowRefusal) → shown_status refusal ≡ 6 → ⊥
-    not_shown None e = absurd cc
-    not_shown (Some refusal) e = absurd cc
-no_fault (Processed o) e = not_processed o e
-  where
-    not_processed : (o : Outcome) → outcome_status o ≡ 6 → ⊥
-    not_processed (outcome.Done done) e = absurd cc
-    not_processed (outcome.Unread refusal) e = absurd cc
-    not_processed (outcome.Refused refusal text) e = absurd cc
-    not_processed (outcome.NotFollowing failing) e = absurd cc
+no_fault reply e = beyond (status_of reply) 6 (status_small reply) e (lit≤ tt)
 
 -- at status 6 fronts of the reply's file and text stand there
 pub front_said : (names : Option Files) (words : List (List ℕ)) (F : Type 0) (reply : Reply) (was middle now : Sight) (r : ℕ) (text : List ℕ) (before later : ℕ) →

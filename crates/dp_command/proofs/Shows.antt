@@ -13,10 +13,10 @@ use Rattle.dp_show.specs.Showing.{after, refusal, shown_line}
 use Rattle.dp_show.specs.declared.shown.Refusal.{Refusal}
 use Rattle.dp_show.specs.declared.shown.Shown.{Shown}
 use Rattle.dp_desk.specs.Sight.{Sight}
-use Rattle.dp_command.proofs.Requests.{show_is_no_check, show_is_no_process}
-use Rattle.dp_command.specs.Due.{LeavesModel}
+use Rattle.dp_command.proofs.Requests.{show_is_no_check, show_is_no_process, solve_is_no_check, solve_is_no_process, solve_is_no_show}
+use Rattle.dp_command.specs.Due.{LeavesUnasked}
 use Rattle.dp_command.specs.Texts.{shown_status}
-use Rattle.dp_command.specs.Words.{Request, Check, Show, Process, IsShow, words_of}
+use Rattle.dp_command.specs.Words.{Request, Check, Show, Process, Solve, Spells, IsShow, IsSolve}
 
 -- what follows a line that is not refused is all shown where all is
 later_shown : (why : Option Why) (number : ℕ) (line : Line) (text : List ℕ) (later : Shown) → (shown_unless why number line text later).refusal ≡ None → later.refusal ≡ None
@@ -45,8 +45,18 @@ shown_ended shown text now e end status =
     let small = shown_small text (subst (λ (s : Shown). s.refusal ≡ None) e (all_shown shown.refusal status)) in
     end (omega (arith, small))
 
+-- ---- the input that is not asked for
+
 -- words that ask to show a log leave the model as it was
-pub model_left : (request : Request) (words : List (List ℕ)) (was now : Sight) → words ≡ words_of request → LeavesModel request was now → IsShow words → now.model ≡ was.model
+pub model_left : (request : Request) (words : List (List ℕ)) (was now : Sight) → Spells request words → LeavesUnasked request was now → IsShow words → now.model ≡ was.model
 model_left (Check model log) words was now e h (other, show) = absurd (show_is_no_check words other (model, log, e) show)
 model_left (Show log) words was now e h show = h
 model_left (Process model scaffold out) words was now e h (other, show) = absurd (show_is_no_process words other (model, scaffold, out, e) show)
+model_left (Solve model out most) words was now e h (other, show) = absurd (solve_is_no_show words other (model, out, most, e) show)
+
+-- words that ask to solve a model leave the log as it was
+pub log_left : (request : Request) (words : List (List ℕ)) (was now : Sight) → Spells request words → LeavesUnasked request was now → IsSolve words → now.log ≡ was.log
+log_left (Check model log) words was now e h solve = absurd (solve_is_no_check words model log solve e)
+log_left (Show log) words was now e h solve = absurd (solve_is_no_show words log solve e)
+log_left (Process model scaffold out) words was now e h solve = absurd (solve_is_no_process words model scaffold out solve e)
+log_left (Solve model out most) words was now e h solve = h

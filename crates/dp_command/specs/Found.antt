@@ -1,13 +1,14 @@
 -- What is found where a model is read.
-use Rattle.std.specs.Prelude.{◌≡◌, ℕ, Option, Ok, Err, List}
+use Rattle.std.specs.Prelude.{◌≡◌, ◌↔◌, ℕ, Option, Ok, Err, List, ℤ}
 use Rattle.dp_desk.specs.Channel.{Files}
 use Rattle.dp_domain.specs.declared.verdict.Verdict.{Verdict}
 use Rattle.dp_judge.specs.Logs.{IsOfGoal}
 use Rattle.dp_checker.specs.Kept.{IsRight}
 use Rattle.dp_lower.specs.Problem.{problem_of}
-use Rattle.dp_parts.specs.Problems.{Csp}
+use Rattle.dp_parts.specs.Problems.{Csp, IsSolution}
 use Rattle.fz_items.specs.Answers.{model_text}
 use Rattle.fz_model.specs.Models.{Plan}
+use Rattle.fz_sat.specs.Satisfies.{Satisfies}
 use Rattle.dp_command.specs.Inputs.{IsRead}
 use Rattle.dp_command.specs.Proved.{IsTrueOf}
 use Rattle.dp_command.specs.Named.{claim_of}
@@ -15,20 +16,20 @@ use Rattle.dp_command.specs.Replies.{most_of_model}
 use Rattle.dp_command.specs.declared.finding.Found.{Found}
 use Rattle.dp_command.specs.declared.finding.Found.TheVariants.{Problem, Refusal}
 
--- the problem is the model's, and what is right of it, as a conclusion on the goal, is true of the model
+-- the problem is the model's and has its solutions, and what is right of it, as a conclusion on the goal, is true of the model
 pub record IsProblemOf (m : Plan) (p : Csp) : Type 0 where
   pub posed : p ≡ problem_of m
+  pub same : (s : ℕ → ℤ) → Satisfies m s ↔ IsSolution s p
   pub true_of : (v : Verdict) → IsRight p v → IsOfGoal p v → IsTrueOf m (claim_of p v)
 
--- the text spells a model of this problem
-pub record Poses (text : List ℕ) (p : Csp) : Type 0 where
-  pub m : Plan
+-- the text spells this model, whose problem this is
+pub record Poses (text : List ℕ) (m : Plan) (p : Csp) : Type 0 where
   pub spelled : model_text text ≡ Ok m
   pub problem : IsProblemOf m p
 
--- the problem of the model that the text spells, or the refusal of the text
+-- the model that the text spells with its problem, or the refusal of the text
 abbrev pub IsFoundIn : List ℕ → Found → Type 0
-IsFoundIn text (Problem p) = Poses text p
+IsFoundIn text (Problem m p) = Poses text m p
 IsFoundIn text (Refusal refusal) = model_text text ≡ Err refusal
 
 -- this is found in the bytes that are read of the model of this name
@@ -38,5 +39,5 @@ pub record IsFound (names : Option Files) (name : List ℕ) (what : Found) : Typ
   pub found : IsFoundIn text what
 
 abbrev pub IsProblemFound : Found → Type 0
-IsProblemFound (Problem p) = Unit {0}
+IsProblemFound (Problem m p) = Unit {0}
 IsProblemFound (Refusal refusal) = ⊥

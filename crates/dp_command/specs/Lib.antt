@@ -8,3 +8,5 @@ pub mod Texts
 pub mod Words
 pub mod Proved
 pub mod Found
+pub mod Solving
+pub mod Tasks

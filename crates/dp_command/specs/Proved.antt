@@ -24,7 +24,7 @@ use Rattle.dp_command.specs.Due.{Holds}
 use Rattle.dp_command.specs.Inputs.{IsRead}
 use Rattle.dp_command.specs.Replies.{IsGiven, most_of_log}
 use Rattle.dp_command.specs.Texts.{text_of}
-use Rattle.dp_command.specs.Words.{Check, Process, words_of}
+use Rattle.dp_command.specs.Words.{Request, Check, Process, Spells}
 use Rattle.dp_command.specs.declared.reply.Claim.{Claim}
 use Rattle.dp_command.specs.declared.reply.Claim.TheVariants.{Unsat, Bound}
 use Rattle.dp_command.specs.declared.reply.Reply.{Reply}
@@ -54,7 +54,7 @@ IsTrueOf m (Bound name op value) = IsBest m op value
 pub record IsProved (names : Option Files) (words : List (List ℕ)) (claim : Claim) : Type 0 where
   pub model : List ℕ
   pub log : List ℕ
-  pub asked : words ≡ words_of (Check model log)
+  pub asked : Spells (Check model log) words
   pub m : Plan
   pub given : IsGiven names model m
   pub holds : IsTrueOf m claim
@@ -63,6 +63,10 @@ pub record IsProved (names : Option Files) (words : List (List ℕ)) (claim : Cl
 abbrev pub IsSound : Option Files → List (List ℕ) → Reply → Type 0
 IsSound names words (Accepted claim) = IsProved names words claim
 IsSound names words reply = Unit {0}
+
+-- so it does for each spelling of what is asked for
+abbrev pub IsSoundTo : Option Files → Request → Reply → Type 0
+IsSoundTo names request reply = (words : List (List ℕ)) → Spells request words → IsSound names words reply
 
 -- a claim was written that is true of the model
 pub record SaysTruth (names : Option Files) (words : List (List ℕ)) (was now : Channel) : Type 0 where
@@ -77,7 +81,7 @@ pub record FilesProof (names : Option Files) (words : List (List ℕ)) (now : Ch
   pub model : List ℕ
   pub scaffold : List ℕ
   pub out : List ℕ
-  pub asked : words ≡ words_of (Process model scaffold out)
+  pub asked : Spells (Process model scaffold out) words
   pub m : Plan
   pub given : IsGiven names model m
   pub lines : List ℕ

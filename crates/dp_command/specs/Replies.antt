@@ -15,7 +15,7 @@ use Rattle.fz_model.specs.Models.{Plan}
 use Rattle.dp_command.specs.Inputs.{IsRead}
 use Rattle.dp_command.specs.Named.{claim_of}
 use Rattle.dp_command.specs.Outcomes.{IsOutcome}
-use Rattle.dp_command.specs.Words.{Request, Check, Show, Process, words_of, AreNoCommand}
+use Rattle.dp_command.specs.Words.{Request, Check, Show, Process, Solve, Spells, AreNoCommand}
 use Rattle.dp_command.specs.declared.outcome.Outcome.{Outcome}
 use Rattle.dp_command.specs.declared.reply.Reply.{Reply}
 use Rattle.dp_command.specs.declared.reply.Reply.TheVariants.{NoCommand, ModelRefused, Accepted, Unread, Refused, Shown as ShownLog, Processed}
@@ -35,11 +35,12 @@ abbrev pub model_of : Request → Option (List ℕ)
 model_of (Check model log) = Some model
 model_of (Show log) = None
 model_of (Process model scaffold out) = Some model
+model_of (Solve model out most) = Some model
 
 -- the words ask for a model, and what is read of it is refused so
 pub record RefusesModel (names : Option Files) (words : List (List ℕ)) (refusal : ModelRefusal) : Type 0 where
   pub request : Request
-  pub asked : words ≡ words_of request
+  pub asked : Spells request words
   pub model : List ℕ
   pub named : model_of request ≡ Some model
   pub text : List ℕ
@@ -73,7 +74,7 @@ pub record IsJudged (names : Option Files) (log : List ℕ) (p : Csp) (reply : R
 pub record JudgesLog (names : Option Files) (words : List (List ℕ)) (reply : Reply) : Type 0 where
   pub model : List ℕ
   pub log : List ℕ
-  pub asked : words ≡ words_of (Check model log)
+  pub asked : Spells (Check model log) words
   pub m : Plan
   pub given : IsGiven names model m
   pub judged : IsJudged names log (problem_of m) reply
@@ -82,7 +83,7 @@ pub record JudgesLog (names : Option Files) (words : List (List ℕ)) (reply : R
 pub record ShowsLog (names : Option Files) (words : List (List ℕ)) (shown : Shown) : Type 0 where
   pub log : List ℕ
   pub lines : List ℕ
-  pub asked : words ≡ words_of (Show log)
+  pub asked : Spells (Show log) words
   pub read : IsRead most_of_log names log lines
   pub replied : shown ≡ shown_log lines
 
@@ -99,7 +100,7 @@ pub record ProcessesScaffold (names : Option Files) (words : List (List ℕ)) (o
   pub model : List ℕ
   pub scaffold : List ℕ
   pub out : List ℕ
-  pub asked : words ≡ words_of (Process model scaffold out)
+  pub asked : Spells (Process model scaffold out) words
   pub m : Plan
   pub given : IsGiven names model m
   pub processed : IsProcessed names scaffold out (problem_of m) o
@@ -113,3 +114,7 @@ Replies names words (ModelRefused refusal) = RefusesModel names words refusal
 Replies names words (ShownLog shown) = ShowsLog names words shown
 Replies names words (Processed o) = ProcessesScaffold names words o
 Replies names words reply = JudgesLog names words reply
+
+-- the reply belongs to each spelling of what is asked for
+abbrev pub RepliesTo : Option Files → Request → Reply → Type 0
+RepliesTo names request reply = (words : List (List ℕ)) → Spells request words → Replies names words reply

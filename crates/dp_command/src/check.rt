@@ -6,10 +6,10 @@ ghost use Rattle.dp_desk.specs.Sight.{with_input};
 ghost use Rattle.dp_judge.specs.Logs.{IsGoalAnswer};
 ghost use Rattle.dp_command.specs.Inputs.{HasReadCause};
 ghost use Rattle.dp_command.specs.Due.{AreAtEnd, ChangesInputs, LeavesUnread};
-ghost use Rattle.dp_command.specs.Proved.{IsSound};
-ghost use Rattle.dp_command.specs.Replies.{IsJudged, Replies, reply_of};
+ghost use Rattle.dp_command.specs.Proved.{IsSoundTo};
+ghost use Rattle.dp_command.specs.Replies.{IsJudged, RepliesTo, reply_of};
 ghost use Rattle.dp_command.specs.Texts.{status_of};
-ghost use Rattle.dp_command.specs.Words.{Check, words_of};
+ghost use Rattle.dp_command.specs.Words.{Check};
 
 use crate::Trouble;
 use crate::finding::{Found, read_problem};
@@ -29,8 +29,8 @@ pub(crate) fn check<D: Desk>(
     log: &str,
     desk: &mut D,
 ) -> Result<Reply, Trouble>
-    ensures due { IfOk result (λ reply. Replies (D.sight desk.old).names (words_of (Check model.now log.now)) reply) }
-    ensures sound { IfOk result (λ reply. IsSound (D.sight desk.old).names (words_of (Check model.now log.now)) reply) }
+    ensures due { IfOk result (λ reply. RepliesTo (D.sight desk.old).names (Check model.now log.now) reply) }
+    ensures sound { IfOk result (λ reply. IsSoundTo (D.sight desk.old).names (Check model.now log.now) reply) }
     ensures ended { IfOk result (λ reply. status_of reply ≡ 0 → AreAtEnd (Check model.now log.now) (D.sight desk.new)) }
     ensures unread { IfOk result (λ reply. LeavesUnread reply (D.sight desk.old) (D.sight desk.new)) }
     ensures rest { ChangesInputs (D.sight desk.old) (D.sight desk.new) }
@@ -38,7 +38,7 @@ pub(crate) fn check<D: Desk>(
     ensures other { D.faults_out desk.new ≡ D.faults_out desk.old }
 {
     match read_problem(alloc, model, desk)? {
-        Found::Problem(problem) => judge_input(alloc, &problem, log, desk),
+        Found::Problem(_model, problem) => judge_input(alloc, &problem, log, desk),
         Found::Refusal(refusal) => Ok(Reply::ModelRefused(refusal)),
     }
 }

@@ -19,8 +19,8 @@ use std::alloc::Global;
 /// What is found where a model is read.
 #[derive(Drop)]
 pub(crate) enum Found {
-    /// Its problem.
-    Problem(Problem),
+    /// The model and its problem.
+    Problem(Model, Problem),
     /// Its text is refused.
     Refusal(ModelRefusal),
 }
@@ -41,14 +41,14 @@ pub(crate) fn read_problem<D: Desk>(
     Ok(find_problem(alloc, text.as_slice())?)
 }
 
-// The problem of the model that the text spells.
+// The model that the text spells, with its problem.
 fn find_problem(alloc: Global, text: &[u8]) -> Result<Found, Memory>
     ensures found { IfOk result (IsFoundIn text.now) }
 {
     match read_model(alloc, text) {
         Ok(model) => {
             let problem = problem_of(alloc, &model)?;
-            Ok(Found::Problem(problem))
+            Ok(Found::Problem(model, problem))
         }
         Err(ModelRefusal::Memory) => Err(Memory),
         Err(refusal) => Ok(Found::Refusal(refusal)),

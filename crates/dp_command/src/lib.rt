@@ -11,12 +11,23 @@ mod reading;
 mod reply;
 mod saying;
 mod show;
+mod solve;
+mod task;
 mod trouble;
 mod words;
 
 pub use program::run;
 pub(crate) use trouble::Trouble;
 pub use words::{Command, read_words};
+
+// The status where an input could not be opened or read.
+const READ_FAULT: u8 = 5;
+
+// The status where a write failed.
+const WRITE_FAULT: u8 = 6;
+
+// The status where an allocation was refused.
+const OUT_OF_MEMORY: u8 = 7;
 
 #[cfg(test)]
 mod tests;

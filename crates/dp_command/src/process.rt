@@ -12,9 +12,9 @@ ghost use Rattle.dp_scaffold.specs.Texts.{scaffold_text};
 ghost use Rattle.dp_command.specs.Inputs.{HasReadCause};
 ghost use Rattle.dp_command.specs.Due.{AreAtEnd, ChangesInputs, LeavesUnread};
 ghost use Rattle.dp_command.specs.Outcomes.{IsDone, IsFailingOf, IsOutcome, IsOutcomeOf, claim_line, nogood_line, told_at};
-ghost use Rattle.dp_command.specs.Replies.{IsProcessed, Replies};
+ghost use Rattle.dp_command.specs.Replies.{IsProcessed, RepliesTo};
 ghost use Rattle.dp_command.specs.Texts.{outcome_status, status_of};
-ghost use Rattle.dp_command.specs.Words.{Process, words_of};
+ghost use Rattle.dp_command.specs.Words.{Process};
 
 use crate::Trouble;
 use crate::finding::{Found, read_problem};
@@ -41,7 +41,7 @@ pub(crate) fn process<D: Desk>(
     out: &str,
     desk: &mut D,
 ) -> Result<Reply, Trouble>
-    ensures due { IfOk result (λ reply. Replies (D.sight desk.old).names (words_of (Process model.now scaffold.now out.now)) reply) }
+    ensures due { IfOk result (λ reply. RepliesTo (D.sight desk.old).names (Process model.now scaffold.now out.now) reply) }
     ensures ended { IfOk result (λ reply. status_of reply ≡ 0 → AreAtEnd (Process model.now scaffold.now out.now) (D.sight desk.new)) }
     ensures unread { IfOk result (λ reply. LeavesUnread reply (D.sight desk.old) (D.sight desk.new)) }
     ensures rest { ChangesInputs (D.sight desk.old) (D.sight desk.new) }
@@ -49,7 +49,7 @@ pub(crate) fn process<D: Desk>(
     ensures other { D.faults_out desk.new ≡ D.faults_out desk.old }
 {
     match read_problem(alloc, model, desk)? {
-        Found::Problem(problem) => {
+        Found::Problem(_model, problem) => {
             let outcome = process_input(alloc, &problem, scaffold, out, desk)?;
             Ok(Reply::Processed(outcome))
         }

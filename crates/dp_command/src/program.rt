@@ -1,42 +1,44 @@
 // The top call.
 
-ghost use Rattle.std.specs.Prelude.{◌≡◌, ◌≢◌, ◌<◌, ◌≤◌, map, IfOk};
+ghost use Rattle.std.specs.Prelude.{◌≡◌, ◌≢◌, ◌⊎◌, ◌<◌, ◌≤◌, map, IfOk};
 ghost use Rattle.dp_desk.specs.Channel.{Grows};
 ghost use Rattle.dp_desk.specs.Causes.{Rose};
 ghost use Rattle.dp_command.specs.Asked.{asked};
-ghost use Rattle.dp_command.specs.Words.{IsCheck, IsProcess, IsShow, words_of};
+ghost use Rattle.dp_command.specs.Words.{IsCheck, IsProcess, IsShow, IsSolve};
 ghost use Rattle.dp_command.specs.Inputs.{HasReadCause};
-ghost use Rattle.dp_command.specs.Due.{Said, SaidPart, ChangesInputs, ChangesOutputs, LeavesModel, LeavesUnread, AreAtEnd, ReadsToEnd};
-ghost use Rattle.dp_command.specs.Proved.{FilesProof, IsSound, SaysTruth};
-ghost use Rattle.dp_command.specs.Replies.{Replies};
-ghost use Rattle.dp_command.specs.Texts.{read_fault, status_of};
+ghost use Rattle.dp_command.specs.Due.{Said, SaidPart, ChangesInputs, ChangesOutputs, LeavesUnasked, AreAtEnd, ReadsToEnd};
+ghost use Rattle.dp_command.specs.Proved.{FilesProof, SaysTruth};
+ghost use Rattle.dp_command.specs.Solving.{IsReplied, IsSolved, SolvesModel, SolvesModelPart};
+ghost use Rattle.dp_command.specs.Tasks.{IfGood, IsSoundTask, IsSoundTaskTo, IsTask, IsTaskTo, LeavesUnreadBy};
+ghost use Rattle.dp_command.specs.Texts.{read_fault};
 
 use crate::check::check;
 use crate::process::process;
 use crate::reply::Reply;
 use crate::saying::{hand_over, say};
 use crate::show::show;
-use crate::{Command, Trouble, read_words};
+use crate::solve::{search, solve};
+use crate::task::Task;
+use crate::{Command, OUT_OF_MEMORY, READ_FAULT, Trouble, read_words};
 use dp_base::Memory;
 use dp_desk::Desk;
 use std::alloc::Global;
 
-// The status where an input could not be opened or read.
-const READ_FAULT: u8 = 5;
-
-// The status where an allocation was refused.
-const OUT_OF_MEMORY: u8 = 7;
-
 /// Does what the words ask for over a desk, and answers the status that the program ends with.
 ///
-/// The words are judged first, then the model, then the log or the scaffold; a log is shown without a model. Status 0
-/// comes where the log is accepted or shown to its end, or the scaffold is processed, 1 where it is refused, 2 where the
-/// words are no command, 3 where the model is refused, 5 and 6 where an input and where an output failed, and 7 for want
-/// of memory. At each status but 7 a text is written as the answer. The processed log is opened and written only where
-/// nothing but a write can fail, before the answer.
+/// The words are judged first, then the model, then the log or the scaffold; a log is shown without a model, and a model
+/// is solved without a log. Status 0 comes where the log is accepted or shown to its end, the scaffold is processed or
+/// the model is solved, 1 where it is refused, 2 where the words are no command, 3 where the model is refused, 4 where
+/// the most nogoods were learned, 5 and 6 where an input and where an output failed, and 7 for want of memory. At each
+/// status but 7 a text is written as the answer. The processed log is opened and written only where nothing but a write
+/// can fail, before the answer; the scaffold of a model is opened where the model is not refused, and is written while it
+/// is solved.
 pub fn run<D: Desk>(alloc: Global, words: &[&str], desk: &mut D) -> u8
     // The status, the file and the text are those of the reply that belongs to the words and the inputs.
-    ensures answered { let texts = map (λ w. w.now) words.now in result ≤ 4 → Said (D.sight desk.old).names texts result (D.sight desk.old) (D.sight desk.new) }
+    ensures answered { let texts = map (λ w. w.now) words.now in IsReplied texts result → Said (D.sight desk.old).names texts result (D.sight desk.old) (D.sight desk.new) }
+
+    // A solved model's scaffold stands in the file, and its outcome, which is true of the model, is the answer.
+    ensures solved { let texts = map (λ w. w.now) words.now in IsSolved texts result → SolvesModel (D.sight desk.old).names texts result (D.sight desk.old) (D.sight desk.new) }
 
     // What a check writes of an accepted log is true of the model, in the meaning of its constraints.
     ensures sound { let texts = map (λ w. w.now) words.now in result ≡ 0 → IsCheck texts → SaysTruth (D.sight desk.old).names texts (D.sight desk.old).answer (D.sight desk.new).answer }
@@ -46,30 +48,35 @@ pub fn run<D: Desk>(alloc: Global, words: &[&str], desk: &mut D) -> u8
     ensures ended { let texts = map (λ w. w.now) words.now in result ≡ 0 → ReadsToEnd texts (D.sight desk.new) }
     ensures unread_words { result ≡ 2 → (D.sight desk.new).model ≡ (D.sight desk.old).model × ((D.sight desk.new).log ≡ (D.sight desk.old).log) }
     ensures unread_log { result ≡ 3 → (D.sight desk.new).log ≡ (D.sight desk.old).log }
+    ensures unread_log_by_solve { let texts = map (λ w. w.now) words.now in IsSolve texts → (D.sight desk.new).log ≡ (D.sight desk.old).log }
     ensures unread_model { let texts = map (λ w. w.now) words.now in IsShow texts → (D.sight desk.new).model ≡ (D.sight desk.old).model }
 
-    // The file is opened only to process a scaffold, and only where that is done.
-    ensures unfiled_words { let texts = map (λ w. w.now) words.now in (IsProcess texts → ⊥) → (D.sight desk.new).first ≡ (D.sight desk.old).first }
-    ensures unfiled { result ≢ 0 → result ≢ 6 → (D.sight desk.new).first ≡ (D.sight desk.old).first }
+    // The file is opened only to process a scaffold, and only where that is done, or to solve a model.
+    ensures unfiled_words { let texts = map (λ w. w.now) words.now in (IsProcess texts → ⊥) → (IsSolve texts → ⊥) → (D.sight desk.new).first ≡ (D.sight desk.old).first }
+    ensures unfiled { let texts = map (λ w. w.now) words.now in result ≢ 0 → result ≢ 6 → (IsSolve texts → result ≢ 4 × (result ≢ 7)) → (D.sight desk.new).first ≡ (D.sight desk.old).first }
 
     // Faults come only where an input or an output failed, and are never hidden.
     ensures read_fault { result ≡ 5 → Rose (D.faults_in desk.old) (D.faults_in desk.new) × Grows (D.sight desk.old).answer (D.sight desk.new).answer read_fault }
     ensures write_fault { result ≡ 6 → Rose (D.faults_out desk.old) (D.faults_out desk.new) }
     ensures in_seen { D.faults_in desk.old < D.faults_in desk.new → 5 ≤ result }
-    ensures out_seen { D.faults_out desk.old < D.faults_out desk.new → result ≡ 6 }
+    ensures out_seen { let texts = map (λ w. w.now) words.now in D.faults_out desk.old < D.faults_out desk.new → result ≡ 6 ⊎ (result ≡ 7 × IsSolve texts) }
     ensures in_counted { D.faults_in desk.old ≤ D.faults_in desk.new }
     ensures out_counted { D.faults_out desk.old ≤ D.faults_out desk.new }
 
-    // After a failed write fronts of what was due stand there, and nothing more.
-    ensures front { let texts = map (λ w. w.now) words.now in result ≡ 6 → SaidPart (D.sight desk.old).names texts (Rose (D.faults_in desk.old) (D.faults_in desk.new)) (D.sight desk.old) (D.sight desk.new) }
+    // After a failed write fronts of what was due stand there, and nothing more; and so for want of memory of a solve.
+    ensures front { let texts = map (λ w. w.now) words.now in result ≡ 6 → SaidPart (D.sight desk.old).names texts (Rose (D.faults_in desk.old) (D.faults_in desk.new)) (D.sight desk.old) (D.sight desk.new) ⊎ SolvesModelPart (D.sight desk.old).names texts (D.sight desk.old) (D.sight desk.new) }
+    ensures left { let texts = map (λ w. w.now) words.now in result ≡ 7 → IsSolve texts → (D.sight desk.new).first ≡ (D.sight desk.old).first ⊎ SolvesModelPart (D.sight desk.old).names texts (D.sight desk.old) (D.sight desk.new) }
     ensures nothing { result ≡ 7 → (D.sight desk.new).answer ≡ (D.sight desk.old).answer }
     ensures rest { ChangesOutputs (D.sight desk.old) (D.sight desk.new) }
     ensures known { result ≤ 7 }
 {
-    match reply_to(alloc, words, desk) {
-        Ok(reply) => match reply.text(alloc) {
-            Ok(text) => hand_over(desk, &reply, text.as_slice()),
-            Err(Memory) => OUT_OF_MEMORY,
+    match task_of(alloc, words, desk) {
+        Ok(task) => match task {
+            Task::Say(reply) => match reply.text(alloc) {
+                Ok(text) => hand_over(desk, &reply, text.as_slice()),
+                Err(Memory) => OUT_OF_MEMORY,
+            },
+            Task::Solve(found) => search(alloc, &found, desk),
         },
         Err(Trouble::ReadFault) => say(desk, b"read fault\n", READ_FAULT),
         Err(Trouble::Memory) => OUT_OF_MEMORY,
@@ -77,40 +84,46 @@ pub fn run<D: Desk>(alloc: Global, words: &[&str], desk: &mut D) -> u8
 }
 
 // Reads and judges what the words ask for, and writes nothing.
-fn reply_to<D: Desk>(alloc: Global, words: &[&str], desk: &mut D) -> Result<Reply, Trouble>
-    ensures due { let texts = map (λ w. w.now) words.now in IfOk result (λ reply. Replies (D.sight desk.old).names texts reply) }
-    ensures sound { let texts = map (λ w. w.now) words.now in IfOk result (λ reply. IsSound (D.sight desk.old).names texts reply) }
-    ensures ended { let texts = map (λ w. w.now) words.now in IfOk result (λ reply. status_of reply ≡ 0 → ReadsToEnd texts (D.sight desk.new)) }
-    ensures unread { IfOk result (λ reply. LeavesUnread reply (D.sight desk.old) (D.sight desk.new)) }
+fn task_of<D: Desk>(alloc: Global, words: &[&str], desk: &mut D) -> Result<Task, Trouble>
+    ensures due { let texts = map (λ w. w.now) words.now in IfOk result (IsTask (D.sight desk.old).names texts) }
+    ensures sound { let texts = map (λ w. w.now) words.now in IfOk result (IsSoundTask (D.sight desk.old).names texts) }
+    ensures ended { let texts = map (λ w. w.now) words.now in IfOk result (λ task. IfGood task (ReadsToEnd texts (D.sight desk.new))) }
+    ensures unread { IfOk result (λ task. LeavesUnreadBy task (D.sight desk.old) (D.sight desk.new)) }
     ensures unread_model { let texts = map (λ w. w.now) words.now in IsShow texts → (D.sight desk.new).model ≡ (D.sight desk.old).model }
+    ensures unread_log { let texts = map (λ w. w.now) words.now in IsSolve texts → (D.sight desk.new).log ≡ (D.sight desk.old).log }
     ensures rest { ChangesInputs (D.sight desk.old) (D.sight desk.new) }
     ensures cause { HasReadCause (D.faults_in desk.old) (D.faults_in desk.new) result }
     ensures other { D.faults_out desk.new ≡ D.faults_out desk.old }
 {
     match read_words(words) {
         Some(command) => obey(alloc, command, desk),
-        None => Ok(Reply::NoCommand),
+        None => Ok(Task::Say(Reply::NoCommand)),
     }
 }
 
 // Reads and judges what a command asks for, and writes nothing.
-fn obey<D: Desk>(alloc: Global, command: Command<'_>, desk: &mut D) -> Result<Reply, Trouble>
-    ensures due { IfOk result (λ reply. Replies (D.sight desk.old).names (words_of (asked command.entry)) reply) }
-    ensures sound { IfOk result (λ reply. IsSound (D.sight desk.old).names (words_of (asked command.entry)) reply) }
-    ensures ended { IfOk result (λ reply. status_of reply ≡ 0 → AreAtEnd (asked command.entry) (D.sight desk.new)) }
-    ensures unread { IfOk result (λ reply. LeavesUnread reply (D.sight desk.old) (D.sight desk.new)) }
-    ensures unread_model { LeavesModel (asked command.entry) (D.sight desk.old) (D.sight desk.new) }
+fn obey<D: Desk>(alloc: Global, command: Command<'_>, desk: &mut D) -> Result<Task, Trouble>
+    ensures due { IfOk result (IsTaskTo (D.sight desk.old).names (asked command.entry)) }
+    ensures sound { IfOk result (IsSoundTaskTo (D.sight desk.old).names (asked command.entry)) }
+    ensures ended { IfOk result (λ task. IfGood task (AreAtEnd (asked command.entry) (D.sight desk.new))) }
+    ensures unread { IfOk result (λ task. LeavesUnreadBy task (D.sight desk.old) (D.sight desk.new)) }
+    ensures unasked { LeavesUnasked (asked command.entry) (D.sight desk.old) (D.sight desk.new) }
     ensures rest { ChangesInputs (D.sight desk.old) (D.sight desk.new) }
     ensures cause { HasReadCause (D.faults_in desk.old) (D.faults_in desk.new) result }
     ensures other { D.faults_out desk.new ≡ D.faults_out desk.old }
 {
     match command {
-        Command::Check { model, log } => check(alloc, model, log, desk),
-        Command::Show { log } => show(alloc, log, desk),
+        Command::Check { model, log } => Ok(Task::Say(check(alloc, model, log, desk)?)),
+        Command::Show { log } => Ok(Task::Say(show(alloc, log, desk)?)),
         Command::Process {
             model,
             scaffold,
             out,
-        } => process(alloc, model, scaffold, out, desk),
+        } => Ok(Task::Say(process(alloc, model, scaffold, out, desk)?)),
+        Command::Solve {
+            model,
+            out,
+            conflicts,
+        } => solve(alloc, model, out, conflicts, desk),
     }
 }

@@ -7,11 +7,9 @@ ghost use Rattle.dp_desk.specs.Sight.{with_output};
 ghost use Rattle.dp_command.specs.Due.{HoldsFront, Holds, IsCut, IsFiled, Writes, WritesPart};
 ghost use Rattle.dp_command.specs.Texts.{file_of, status_of};
 
+use crate::WRITE_FAULT;
 use crate::reply::Reply;
 use dp_desk::{Desk, Failed, Out, write_all};
-
-// The status where a write failed.
-const WRITE_FAULT: u8 = 6;
 
 /// Writes the file of a reply, if it has one, then its text as the answer, and gives back its status; after a failed
 /// write 6, and nothing more is written.

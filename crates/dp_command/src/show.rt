@@ -4,10 +4,10 @@ ghost use Rattle.std.specs.Prelude.{◌≡◌, IfOk};
 ghost use Rattle.dp_desk.specs.Sight.{with_input};
 ghost use Rattle.dp_command.specs.Inputs.{HasReadCause};
 ghost use Rattle.dp_command.specs.Due.{AreAtEnd, LeavesUnread};
-ghost use Rattle.dp_command.specs.Replies.{Replies};
-ghost use Rattle.dp_command.specs.Proved.{IsSound};
+ghost use Rattle.dp_command.specs.Replies.{RepliesTo};
+ghost use Rattle.dp_command.specs.Proved.{IsSoundTo};
 ghost use Rattle.dp_command.specs.Texts.{status_of};
-ghost use Rattle.dp_command.specs.Words.{Show, words_of};
+ghost use Rattle.dp_command.specs.Words.{Show};
 
 use crate::Trouble;
 use crate::reading::{MOST_OF_LOG, read_whole};
@@ -21,8 +21,8 @@ mod tests;
 
 /// Shows a log, and writes nothing. The log alone is opened.
 pub(crate) fn show<D: Desk>(alloc: Global, log: &str, desk: &mut D) -> Result<Reply, Trouble>
-    ensures due { IfOk result (λ reply. Replies (D.sight desk.old).names (words_of (Show log.now)) reply) }
-    ensures sound { IfOk result (λ reply. IsSound (D.sight desk.old).names (words_of (Show log.now)) reply) }
+    ensures due { IfOk result (λ reply. RepliesTo (D.sight desk.old).names (Show log.now) reply) }
+    ensures sound { IfOk result (λ reply. IsSoundTo (D.sight desk.old).names (Show log.now) reply) }
     ensures ended { IfOk result (λ reply. status_of reply ≡ 0 → AreAtEnd (Show log.now) (D.sight desk.new)) }
     ensures unread { IfOk result (λ reply. LeavesUnread reply (D.sight desk.old) (D.sight desk.new)) }
     ensures rest { D.sight desk.new ≡ with_input In.Log (D.sight desk.new).log (D.sight desk.old) }

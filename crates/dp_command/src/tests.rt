@@ -17,6 +17,10 @@ const ACCEPTED: &str = "accepted: UNSAT\n";
 // A model whose least value is 7.
 pub(crate) const MINIMUM: &str = "var 0..9: obj;\nconstraint int_le(7,obj);\nsolve minimize obj;\n";
 
+// Four variables that differ, over three numbers.
+pub(crate) const DIFFERENT: &str =
+    "var 0..2: x;\nvar 0..2: y;\nvar 0..2: z;\nvar 0..2: w;\nconstraint int_ne(x,y);\nconstraint int_ne(x,z);\nconstraint int_ne(x,w);\nconstraint int_ne(y,z);\nconstraint int_ne(y,w);\nconstraint int_ne(z,w);\nsolve satisfy;\n";
+
 // A desk with a model and a log of these names.
 pub(crate) fn desk_of(
     alloc: Global,
@@ -46,6 +50,59 @@ pub(crate) fn answered(
     let status = run(alloc, words, &mut desk);
     let answer = desk.written(Out::Answer).unwrap_or(b"not told");
     Ok((status, answer.to_vec(alloc)?))
+}
+
+// The status, the answer and the file of a run, where the file was opened.
+#[derive(Drop)]
+pub(crate) struct Left {
+    pub(crate) status: u8,
+    pub(crate) answer: Vec<u8>,
+    pub(crate) file: Option<Vec<u8>>,
+}
+
+impl Left {
+    // Whether these were left.
+    pub(crate) fn is(&self, status: u8, answer: &[u8], file: Option<&[u8]>) -> bool {
+        self.status == status && self.answer.as_slice() == answer && is_file(&self.file, file)
+    }
+}
+
+// Whether this is the file, or none was opened.
+fn is_file(left: &Option<Vec<u8>>, wanted: Option<&[u8]>) -> bool {
+    match (left, wanted) {
+        (Some(left), Some(wanted)) => left.as_slice() == wanted,
+        (None, None) => true,
+        (Some(_), None) | (None, Some(_)) => false,
+    }
+}
+
+// What is left by a run over a desk with a model and a log.
+pub(crate) fn left_by(
+    alloc: Global,
+    words: &[&str],
+    model: &str,
+    log: &[u8],
+    piece: usize,
+    failing: &[u64],
+) -> Result<Left, AllocError> {
+    let mut desk = desk_of(alloc, model, log, piece, failing)?;
+    let status = run(alloc, words, &mut desk);
+    let answer = desk.written(Out::Answer).unwrap_or(b"not told");
+    let answer = answer.to_vec(alloc)?;
+    let file = match desk.written(Out::First) {
+        Some(bytes) => Some(bytes.to_vec(alloc)?),
+        None => None,
+    };
+    Ok(Left {
+        status,
+        answer,
+        file,
+    })
+}
+
+// The first bytes of a text.
+pub(crate) fn front(text: &[u8], count: usize) -> &[u8] {
+    text.get(..count).unwrap_or(text)
 }
 
 // Checks the log of these names, and gives back the status and the answer.
@@ -209,69 +266,6 @@ fn the_first_refusal_is_told(rt: HostRuntime) -> Result<(), Fail> {
         assert_eq!(rt; answered, status, "{name}");
         assert_eq!(rt; answer.as_slice(), text.as_bytes(), "{name}");
     }
-    Ok(())
-}
-
-#[test]
-fn words_are_commands(rt: HostRuntime) -> Result<(), Fail> {
-    let check = Command::Check {
-        model: "show",
-        log: "check",
-    };
-    assert_eq!(rt; read_words(&["check", "show", "check"]), Some(check));
-    assert_eq!(rt;
-        read_words(&["show", "show"]),
-        Some(Command::Show { log: "show" })
-    );
-    assert_eq!(rt; read_words(&["show", "m", "l"]), None);
-    let process = Command::Process {
-        model: "process",
-        scaffold: "s",
-        out: "m",
-    };
-    assert_eq!(rt;
-        read_words(&["process", "process", "s", "m"]),
-        Some(process)
-    );
-    Ok(())
-}
-
-#[test]
-fn words_are_judged_first(rt: HostRuntime) -> Result<(), Fail> {
-    let alloc = rt.alloc();
-    let none: [&str; 0] = [];
-    let rows = [
-        none.as_slice(),
-        &["check"],
-        &["check", "m"],
-        &["check", "m", "l", "x"],
-        &["solve", "m", "l"],
-        &["Check", "m", "l"],
-        &["show"],
-        &["show", "l", "x"],
-        &["Show", "l"],
-        &["l", "show"],
-        &["process"],
-        &["process", "m", "l"],
-        &["process", "m", "l", "o", "x"],
-        &["Process", "m", "l", "o"],
-    ];
-    for words in rows {
-        let mut desk = desk_of(alloc, MODEL, b"", 1_000_000, &[2])?;
-        assert_eq!(rt; run(alloc, words, &mut desk), 2, "at {words:?}");
-        assert_eq!(rt;
-            desk.written(Out::Answer),
-            Some(b"words not understood\n".as_slice())
-        );
-        assert_eq!(rt; desk.written(Out::First), None, "at {words:?}");
-    }
-    let mut desk = desk_of(alloc, MODEL, b"", 4, &[3])?;
-    assert_eq!(rt;
-        run(alloc, &["check"], &mut desk),
-        6,
-        "the third write fails"
-    );
-    assert_eq!(rt; desk.written(Out::Answer), Some(b"words no".as_slice()));
     Ok(())
 }
 

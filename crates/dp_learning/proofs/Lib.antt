@@ -3,6 +3,7 @@ pub mod LearnedLaws
 pub mod MeetLaws
 pub mod SolutionLaws
 pub mod KeepLaws
+pub mod TruthLaws
 mod DifferenceLaws
 mod SortLaws
 mod PigeonLaws

@@ -12,6 +12,7 @@ use Rattle.dp_lines.specs.Allowed.{IsAllowed}
 use Rattle.dp_parts.specs.Problems.{Csp, IsProblem, LeadBack, posed}
 use Rattle.dp_replay.specs.Accepting.{AreShort}
 use Rattle.dp_rule_clause.specs.Nogoods.{IsOnce}
+use Rattle.dp_scaffold.specs.Gathering.{most_literals, most_nogoods}
 use Rattle.dp_scaffold.specs.Scaffolds.{Learned}
 use Rattle.dp_scaffold.specs.Texts.{scaffold_text}
 use Rattle.dp_scaffold.specs.declared.answer.ScaffoldAnswer.TheVariants.{Given}
@@ -19,8 +20,8 @@ use Rattle.dp_writer.specs.Steps.{lines}
 
 -- no limit of scaffolds is passed: by the nogoods, by their literals, or by a line or all of its bytes
 pub record IsInLimits (p : Csp) (nogoods : List (List Atomic)) (claim : Verdict) : Type 0 where
-  pub few : length nogoods ≤ 1000000
-  pub literals : sum_by length nogoods ≤ 20000000
+  pub few : length nogoods ≤ most_nogoods
+  pub literals : sum_by length nogoods ≤ most_literals
   pub short : AreShort (lines (steps_of p nogoods (Some claim))) (scaffold_of p nogoods (Some claim))
 
 -- the answer is a scaffold of these nogoods and this claim

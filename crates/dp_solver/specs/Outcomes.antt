@@ -1,5 +1,6 @@
 -- What a solver answers, and what it writes.
 use Rattle.std.specs.Prelude.{◌≡◌, ℕ, ◌≤◌, List, length, Option, Some, None, IfSome, Result, OnOk, IsErrOf, ℤ}
+use Rattle.dp_base.specs.Lists.{Each}
 use Rattle.dp_desk.specs.Causes.{Rose}
 use Rattle.dp_desk.specs.Channel.{Channel, Grows, GrowsByPart}
 use Rattle.dp_domain.specs.Atoms.{Atomic}
@@ -7,14 +8,17 @@ use Rattle.dp_domain.specs.declared.verdict.Verdict.{Verdict}
 use Rattle.dp_domain.specs.declared.verdict.Verdict.TheVariants as claimed
 use Rattle.dp_engine.specs.declared.turn.Turn.TheVariants.{Quiet}
 use Rattle.dp_learning.specs.Learning.{AreLearned, Concludes, denial_of, end_after}
-use Rattle.dp_learning.specs.Scaffolds.{scaffold_of}
+use Rattle.dp_learning.specs.Scaffolds.{scaffold_of, steps_of}
 use Rattle.dp_learning.specs.Solutions.{IsSolutionOf, best_claim, open_claim}
+use Rattle.dp_lines.specs.Allowed.{IsAllowed}
 use Rattle.dp_parts.specs.Problems.{Csp, posed}
 use Rattle.dp_parts.specs.declared.goal.Goal.TheVariants.{Satisfy}
+use Rattle.dp_rule_clause.specs.Nogoods.{IsOnce}
 use Rattle.dp_solver.specs.declared.outcome.Outcome.{Outcome}
 use Rattle.dp_solver.specs.declared.outcome.Outcome.TheVariants.{Solution, Unsat, Optimal, Unknown}
 use Rattle.dp_solver.specs.declared.outcome.SolveFault.{SolveFault}
 use Rattle.dp_solver.specs.declared.outcome.SolveFault.TheVariants.{WriteFault}
+use Rattle.dp_writer.specs.Steps.{lines}
 
 -- a solution is found where nothing more is asked; nothing is claimed
 pub record IsFound (p : Csp) (said : Option Verdict) (numbers : List ℤ) : Type 0 where
@@ -49,12 +53,15 @@ IsOutcome p most nogoods claim Unsat = IsRefuted p nogoods claim
 IsOutcome p most nogoods claim (Optimal numbers bound) = IsOptimal p nogoods claim numbers bound
 IsOutcome p most nogoods claim (Unknown best) = IsOpen p most nogoods claim best
 
--- nogoods were learned, at most so many; they were written, with a claim behind them, if any; and this is the outcome
+-- nogoods were learned, at most so many, each without an atom twice; they were written, with a claim behind them, if any, in
+-- lines that a log may have; and this is the outcome
 pub record Solves (p : Csp) (most : ℕ) (was now : Channel) (answer : Outcome) : Type 0 where
   pub nogoods : List (List Atomic)
   pub claim : Option Verdict
   pub learned : AreLearned (posed p) nogoods
+  pub once : Each IsOnce nogoods
   pub few : length nogoods ≤ most
+  pub allowed : Each IsAllowed (lines (steps_of p nogoods claim))
   pub written : Grows was now (scaffold_of p nogoods claim)
   pub outcome : IsOutcome p most nogoods claim answer
 

@@ -1,5 +1,5 @@
 -- What a solved model leaves of a desk, and that what it prints is true of the model.
-use Rattle.std.specs.Prelude.{◌≡◌, ◌⊎◌, ◌×◌, ℕ, ◌≤◌, List, ◌++◌, length, IfSome, Option, Some, ℤ, ◌≤ℤ◌}
+use Rattle.std.specs.Prelude.{◌≡◌, ◌⊎◌, ℕ, ◌≤◌, List, ◌++◌, length, IfSome, Option, Some, ℤ, ◌≤ℤ◌}
 use Rattle.dp_desk.specs.Channel.{Channel, Grows, GrowsByPart, Shut, Hidden, Shown}
 use Rattle.dp_desk.specs.Sight.{Sight}
 use Rattle.dp_domain.specs.Atoms.{Atomic}
@@ -49,6 +49,15 @@ abbrev pub HoldsFront : Channel → List ℕ → Type 0
 HoldsFront Shut text = ⊥
 HoldsFront Hidden text = Unit {0}
 HoldsFront (Shown bytes) text = (rest : List ℕ) × (text ≡ bytes ++ rest)
+
+-- the output holds the whole scaffold of this outcome of the problem
+pub record HoldsAll (p : Csp) (most : ℕ) (now : Channel) (outcome : Outcome) : Type 0 where
+  pub nogoods : List (List Atomic)
+  pub claim : Option Verdict
+  pub learned : AreLearned (posed p) nogoods
+  pub few : length nogoods ≤ most
+  pub outcome_is : IsOutcome p most nogoods claim outcome
+  pub file : Holds now (scaffold_of p nogoods claim)
 
 -- The first file holds the scaffold of an outcome of the problem: at most so many nogoods, each learned behind those before
 -- it, and what is claimed. The answer grew by the outcome's text, whose status this is; and what it says is true of the model.

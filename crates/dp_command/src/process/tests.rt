@@ -1,8 +1,6 @@
 use crate::outcome::Outcome;
-use crate::run;
-use crate::tests::{MINIMUM, MODEL, STEPS, desk_of};
+use crate::tests::{DIFFERENT, Left, MINIMUM, MODEL, STEPS, front, left_by};
 use dp_base::Text;
-use dp_desk::Out;
 use dp_scaffold::{GatherWhy, ScaffoldRefusal};
 use std::alloc::{AllocError, Global};
 use std::test::Fail;
@@ -28,10 +26,6 @@ const KEPT: &str =
 
 // A variable without a constraint.
 const FREE: &str = "var bool: p;\nsolve satisfy;\n";
-
-// Four variables that differ, over three numbers.
-const DIFFERENT: &str =
-    "var 0..2: x;\nvar 0..2: y;\nvar 0..2: z;\nvar 0..2: w;\nconstraint int_ne(x,y);\nconstraint int_ne(x,z);\nconstraint int_ne(x,w);\nconstraint int_ne(y,z);\nconstraint int_ne(y,w);\nconstraint int_ne(z,w);\nsolve satisfy;\n";
 
 // Models, scaffolds without a nogood, the logs that they become, and the steps of those.
 const CLAIMS: [(&str, &str, &str, u32); 9] = [
@@ -91,30 +85,6 @@ const CLAIMS: [(&str, &str, &str, u32); 9] = [
     ),
 ];
 
-// The status, the answer and the file of a run, where the file was opened.
-#[derive(Drop)]
-struct Left {
-    status: u8,
-    answer: Vec<u8>,
-    file: Option<Vec<u8>>,
-}
-
-impl Left {
-    // Whether these were left.
-    fn is(&self, status: u8, answer: &[u8], file: Option<&[u8]>) -> bool {
-        self.status == status && self.answer.as_slice() == answer && is_file(&self.file, file)
-    }
-}
-
-// Whether this is the file, or none was opened.
-fn is_file(left: &Option<Vec<u8>>, wanted: Option<&[u8]>) -> bool {
-    match (left, wanted) {
-        (Some(left), Some(wanted)) => left.as_slice() == wanted,
-        (None, None) => true,
-        (Some(_), None) | (None, Some(_)) => false,
-    }
-}
-
 // What is left where a scaffold of a model is processed.
 fn processed(
     alloc: Global,
@@ -123,19 +93,8 @@ fn processed(
     piece: usize,
     failing: &[u64],
 ) -> Result<Left, AllocError> {
-    let mut desk = desk_of(alloc, model, scaffold.as_bytes(), piece, failing)?;
-    let status = run(alloc, &["process", "m", "l", "o"], &mut desk);
-    let answer = desk.written(Out::Answer).unwrap_or(b"not told");
-    let answer = answer.to_vec(alloc)?;
-    let file = match desk.written(Out::First) {
-        Some(bytes) => Some(bytes.to_vec(alloc)?),
-        None => None,
-    };
-    Ok(Left {
-        status,
-        answer,
-        file,
-    })
+    let words = ["process", "m", "l", "o"];
+    left_by(alloc, &words, model, scaffold.as_bytes(), piece, failing)
 }
 
 // Whether a scaffold of a model is refused with this answer.
@@ -315,11 +274,6 @@ fn failed_reads_of_a_scaffold_are_told(rt: HostRuntime) -> Result<(), Fail> {
         assert!(rt; left.is(5, b"read fault\n", None), "call {call} fails");
     }
     Ok(())
-}
-
-// The first bytes of a text.
-fn front(text: &[u8], count: usize) -> &[u8] {
-    text.get(..count).unwrap_or(text)
 }
 
 // Then opening the file, 17 writes, and three writes of the answer.

@@ -9,17 +9,17 @@ use Rattle.dp_command.proofs.check.check.Goals as goal
 
 pub returns-in-Problem-clause-due : goal.returns-in-Problem-clause-due
 returns-in-Problem-clause-due g c =
-    if_ok c.judge_input.result (λ reply j. due_at (g.D.Desk.sight c.args.desk.now).names _ c.args.model.now c.args.log.now c.in-Problem.problem reply c.in_ok-problem.field-0
-    (ap (λ (t : Sight). t.names) c.read_problem.ensures.rest) c.in-Problem.is c.in_ok-problem.ensures.read j) c.judge_input.ensures.reply
+    if_ok c.judge_input.result (λ reply j. due_at (g.D.Desk.sight c.args.desk.now).names _ c.args.model.now c.args.log.now _ c.in-Problem.problem reply c.in_ok-_model.field-0
+    (ap (λ (t : Sight). t.names) c.read_problem.ensures.rest) c.in-Problem.is c.in_ok-_model.ensures.read j) c.judge_input.ensures.reply
 
 pub returns-in-Problem-clause-sound : goal.returns-in-Problem-clause-sound
 returns-in-Problem-clause-sound g c =
-    if_ok c.judge_input.result (λ reply j. sound_at (g.D.Desk.sight c.args.desk.now).names _ c.args.model.now c.args.log.now c.in-Problem.problem reply c.in_ok-problem.field-0
-    (ap (λ (t : Sight). t.names) c.read_problem.ensures.rest) c.in-Problem.is c.in_ok-problem.ensures.read j) c.judge_input.ensures.reply
+    if_ok c.judge_input.result (λ reply j. sound_at (g.D.Desk.sight c.args.desk.now).names _ c.args.model.now c.args.log.now _ c.in-Problem.problem reply c.in_ok-_model.field-0
+    (ap (λ (t : Sight). t.names) c.read_problem.ensures.rest) c.in-Problem.is c.in_ok-_model.ensures.read j) c.judge_input.ensures.reply
 
 pub returns-in-Problem-clause-ended : goal.returns-in-Problem-clause-ended
 returns-in-Problem-clause-ended g c =
-    if_ok c.judge_input.result (λ reply h e. ended_at c.in-Problem.problem c.in_ok-problem.field-0 (g.D.Desk.sight c.read_problem.new.desk) (g.D.Desk.sight c.judge_input.new.desk) c.in-Problem.is c.judge_input.ensures.rest c.in_ok-problem.ensures.ended (h e)) c.judge_input.ensures.ended
+    if_ok c.judge_input.result (λ reply h e. ended_at _ c.in-Problem.problem c.in_ok-_model.field-0 (g.D.Desk.sight c.read_problem.new.desk) (g.D.Desk.sight c.judge_input.new.desk) c.in-Problem.is c.judge_input.ensures.rest c.in_ok-_model.ensures.ended (h e)) c.judge_input.ensures.ended
 
 pub returns-in-Problem-clause-unread : goal.returns-in-Problem-clause-unread
 returns-in-Problem-clause-unread g c = if_ok c.judge_input.result (λ reply j. unread_of _ _ c.in-Problem.problem reply _ _ j) c.judge_input.ensures.reply
@@ -27,4 +27,4 @@ returns-in-Problem-clause-unread g c = if_ok c.judge_input.result (λ reply j. u
 pub returns-in-Refusal-clause-due : goal.returns-in-Refusal-clause-due
 returns-in-Refusal-clause-due g c =
     refused_of (g.D.Desk.sight c.args.desk.now).names (Check c.args.model.now c.args.log.now) c.args.model.now c.in-Refusal.refusal refl
-    (subst (λ (w : Found). IsFound (g.D.Desk.sight c.args.desk.now).names c.args.model.now w) c.in-Refusal.is c.in_ok-problem.ensures.read)
+    (subst (λ (w : Found). IsFound (g.D.Desk.sight c.args.desk.now).names c.args.model.now w) c.in-Refusal.is c.in_ok-_model.ensures.read)

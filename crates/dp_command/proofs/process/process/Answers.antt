@@ -10,14 +10,14 @@ use Rattle.dp_command.proofs.process.process.Goals as goal
 
 pub returns-in_ok-outcome-in-Problem-clause-due : goal.returns-in_ok-outcome-in-Problem-clause-due
 returns-in_ok-outcome-in-Problem-clause-due g c =
-    outcome_at (g.D.Desk.sight c.args.desk.now).names _ c.args.model.now c.args.scaffold.now c.args.out.now c.in-Problem.problem c.in_ok-outcome-in-Problem.outcome c.in_ok-problem.field-0
-    (ap (λ (t : Sight). t.names) c.read_problem.ensures.rest) c.in-Problem.is c.in_ok-problem.ensures.read c.in_ok-outcome-in-Problem.ensures.outcome
+    outcome_at (g.D.Desk.sight c.args.desk.now).names _ c.args.model.now c.args.scaffold.now c.args.out.now _ c.in-Problem.problem c.in_ok-outcome-in-Problem.outcome c.in_ok-_model.field-0
+    (ap (λ (t : Sight). t.names) c.read_problem.ensures.rest) c.in-Problem.is c.in_ok-_model.ensures.read c.in_ok-outcome-in-Problem.ensures.outcome
 
 pub returns-in_ok-outcome-in-Problem-clause-ended : goal.returns-in_ok-outcome-in-Problem-clause-ended
 returns-in_ok-outcome-in-Problem-clause-ended g c = λ e.
-    ended_at c.in-Problem.problem c.in_ok-problem.field-0 (g.D.Desk.sight c.read_problem.new.desk) (g.D.Desk.sight c.process_input.new.desk) c.in-Problem.is c.process_input.ensures.rest c.in_ok-problem.ensures.ended (c.in_ok-outcome-in-Problem.ensures.ended e)
+    ended_at _ c.in-Problem.problem c.in_ok-_model.field-0 (g.D.Desk.sight c.read_problem.new.desk) (g.D.Desk.sight c.process_input.new.desk) c.in-Problem.is c.process_input.ensures.rest c.in_ok-_model.ensures.ended (c.in_ok-outcome-in-Problem.ensures.ended e)
 
 pub returns-in-Refusal-clause-due : goal.returns-in-Refusal-clause-due
 returns-in-Refusal-clause-due g c =
     refused_of (g.D.Desk.sight c.args.desk.now).names (Process c.args.model.now c.args.scaffold.now c.args.out.now) c.args.model.now c.in-Refusal.refusal refl
-    (subst (λ (w : Found). IsFound (g.D.Desk.sight c.args.desk.now).names c.args.model.now w) c.in-Refusal.is c.in_ok-problem.ensures.read)
+    (subst (λ (w : Found). IsFound (g.D.Desk.sight c.args.desk.now).names c.args.model.now w) c.in-Refusal.is c.in_ok-_model.ensures.read)

@@ -1,0 +1,226 @@
+-- What a search leaves of a desk, behind the reading of its model.
+use Rattle.std.specs.Prelude.{◌≡◌, ◌≢◌, ◌⊎◌, ℕ, ◌<◌, ◌≤◌, Option, List, string_bytes}
+use Rattle.std.proofs.Common.{sym, ◌∙◌, ap, subst, inl, inr, arith}
+use Rattle.dp_desk.specs.Channel.{Channel, Files, Grows, GrowsByPart, IsAtEnd}
+use Rattle.dp_desk.specs.Causes.{Rose}
+use Rattle.dp_desk.specs.Sight.{Sight, with_output}
+use Rattle.dp_desk.specs.declared.desk.Out.TheVariants as Out
+use Rattle.dp_parts.specs.Problems.{Csp}
+use Rattle.dp_solver.specs.declared.outcome.Outcome.{Outcome}
+use Rattle.dp_solver.specs.declared.outcome.Outcome.TheVariants.{Solution, Unsat, Optimal, Unknown}
+use Rattle.fz_model.specs.Models.{Plan}
+use Rattle.fz_solve.specs.Printed.{outcome_status, outcome_text}
+use Rattle.fz_solve.specs.Solved.{FilesFront, Solved, SolvedPart, SolvesFront}
+use Rattle.dp_command.proofs.Requests.{solve_is_no_check, solve_is_no_process, solve_is_no_show}
+use Rattle.dp_command.specs.Due.{AreAtEnd, ChangesInputs, ReadsToEnd}
+use Rattle.dp_command.specs.Solving.{IsReplied, IsSolved, SolvesModel, SolvesModelPart}
+use Rattle.dp_command.specs.Tasks.{IsSearched, Searches}
+use Rattle.dp_command.specs.Words.{Request, Check, Show, Process, Solve, Spells, IsCheck, IsProcess, IsSolve}
+use Rattle.dp_command.specs.declared.task.Search.{Search}
+
+-- ---- the status
+
+-- how a search can end
+abbrev pub Ends : ℕ → Type 0
+Ends r = ((r ≡ 0) ⊎ (r ≡ 4)) ⊎ ((r ≡ 6) ⊎ (r ≡ 7))
+
+outcome_ends : (r : ℕ) (o : Outcome) → r ≡ outcome_status o → (r ≡ 0) ⊎ (r ≡ 4)
+outcome_ends r (Solution numbers) e = inl e
+outcome_ends r Unsat e = inl e
+outcome_ends r (Optimal numbers bound) e = inl e
+outcome_ends r (Unknown best) e = inr e
+
+pub search_ends : (search : Search) (r : ℕ) (was now : Sight) (before later : ℕ) → IsSearched search r was now before later → Ends r
+search_ends search r was now before later (inl h) = inl (outcome_ends r h.0.outcome h.0.stands)
+search_ends search r was now before later (inr (inl h)) = inr (inl h.0)
+search_ends search r was now before later (inr (inr h)) = inr (inr h.0)
+
+pub not_two : (r : ℕ) → Ends r → r ≡ 2 → ⊥
+not_two r (inl (inl e)) f = omega (arith, e, f)
+not_two r (inl (inr e)) f = omega (arith, e, f)
+not_two r (inr (inl e)) f = omega (arith, e, f)
+not_two r (inr (inr e)) f = omega (arith, e, f)
+
+pub not_three : (r : ℕ) → Ends r → r ≡ 3 → ⊥
+not_three r (inl (inl e)) f = omega (arith, e, f)
+not_three r (inl (inr e)) f = omega (arith, e, f)
+not_three r (inr (inl e)) f = omega (arith, e, f)
+not_three r (inr (inr e)) f = omega (arith, e, f)
+
+pub not_five : (r : ℕ) → Ends r → r ≡ 5 → ⊥
+not_five r (inl (inl e)) f = omega (arith, e, f)
+not_five r (inl (inr e)) f = omega (arith, e, f)
+not_five r (inr (inl e)) f = omega (arith, e, f)
+not_five r (inr (inr e)) f = omega (arith, e, f)
+
+pub end_known : (r : ℕ) → Ends r → r ≤ 7
+end_known r (inl (inl e)) = omega (arith, e)
+end_known r (inl (inr e)) = omega (arith, e)
+end_known r (inr (inl e)) = omega (arith, e)
+end_known r (inr (inr e)) = omega (arith, e)
+
+-- 0 and 4 are not 6 or 7
+whole : (r : ℕ) → (r ≡ 0) ⊎ (r ≡ 4) → 6 ≤ r → ⊥
+whole r (inl e) f = omega (arith, e, f)
+whole r (inr e) f = omega (arith, e, f)
+
+six : (r : ℕ) → r ≡ 6 → 6 ≤ r
+six r e = omega (arith, e)
+
+seven : (r : ℕ) → r ≡ 7 → 6 ≤ r
+seven r e = omega (arith, e)
+
+six_or_seven : (r : ℕ) → r ≡ 6 → r ≡ 7 → ⊥
+six_or_seven r e f = omega (arith, e, f)
+
+-- no reply has its status
+unreplied_by : (r : ℕ) → Ends r → r ≤ 3 → r ≢ 0 → ⊥
+unreplied_by r (inl (inl e)) f g = g e
+unreplied_by r (inl (inr e)) f g = omega (arith, e, f)
+unreplied_by r (inr (inl e)) f g = omega (arith, e, f)
+unreplied_by r (inr (inr e)) f g = omega (arith, e, f)
+
+pub unreplied : (words : List (List ℕ)) (r : ℕ) → Ends r → IsSolve words → IsReplied words r → ⊥
+unreplied words r ends solve replied = unreplied_by r ends replied.0 (replied.1 solve)
+
+-- a solve that is none of these opens no file
+pub unopened : (words : List (List ℕ)) (r : ℕ) → Ends r → IsSolve words → r ≢ 0 → r ≢ 6 → (IsSolve words → (r ≢ 4) × (r ≢ 7)) → ⊥
+unopened words r (inl (inl e)) solve a b other = a e
+unopened words r (inl (inr e)) solve a b other = (other solve).0 e
+unopened words r (inr (inl e)) solve a b other = b e
+unopened words r (inr (inr e)) solve a b other = (other solve).1 e
+
+solved_small : (words : List (List ℕ)) (r : ℕ) → IsSolved words r → 6 ≤ r → ⊥
+solved_small words r (inl e) f = omega (arith, e, f)
+solved_small words r (inr (e, solve)) f = omega (arith, e, f)
+
+-- ---- the words
+
+pub searched_words : (names : Option Files) (words : List (List ℕ)) (search : Search) → Searches names words search → IsSolve words
+searched_words names words search s = (s.name, string_bytes search.out, search.conflicts, s.asked)
+
+pub solve_checks_not : (words : List (List ℕ)) → IsSolve words → IsCheck words → ⊥
+solve_checks_not words solve (model, log, check) = solve_is_no_check words model log solve check
+
+pub solve_processes_not : (words : List (List ℕ)) → IsSolve words → IsProcess words → ⊥
+solve_processes_not words solve (model, scaffold, out, process) = solve_is_no_process words model scaffold out solve process
+
+-- what was read to its end, where a solve was asked for, is the model
+model_ended : (request : Request) (words : List (List ℕ)) (now : Sight) → Spells request words → AreAtEnd request now → IsSolve words → IsAtEnd now.model
+model_ended (Check model log) words now e h solve = h.0
+model_ended (Show log) words now e h solve = absurd (solve_is_no_show words log solve e)
+model_ended (Process model scaffold out) words now e h solve = h.0
+model_ended (Solve model out most) words now e h solve = h
+
+-- ---- behind the reading
+
+moved_solved : (m : Plan) (p : Csp) (most r : ℕ) (was middle now : Sight) → middle.answer ≡ was.answer → Solved m p most r middle now → Solved m p most r was now
+moved_solved m p most r was middle now same s = record {
+  outcome = s.outcome;
+  nogoods = s.nogoods;
+  claim = s.claim;
+  learned = s.learned;
+  few = s.few;
+  outcome_is = s.outcome_is;
+  file = s.file;
+  told = subst (λ (c : Channel). Grows c now.answer (outcome_text m s.outcome)) same s.told;
+  stands = s.stands;
+  truth = s.truth;
+}
+
+moved_part : (m : Plan) (p : Csp) (most : ℕ) (was middle now : Sight) → middle.answer ≡ was.answer → SolvedPart m p most middle now → SolvedPart m p most was now
+moved_part m p most was middle now same s = record {
+  outcome = s.outcome;
+  nogoods = s.nogoods;
+  claim = s.claim;
+  learned = s.learned;
+  few = s.few;
+  outcome_is = s.outcome_is;
+  file = s.file;
+  told = subst (λ (c : Channel). GrowsByPart c now.answer (outcome_text m s.outcome)) same s.told;
+}
+
+moved_front : (m : Plan) (p : Csp) (most : ℕ) (was middle now : Sight) → middle.answer ≡ was.answer → middle.first ≡ was.first → SolvesFront m p most middle now → SolvesFront m p most was now
+moved_front m p most was middle now answer first (inl h) = inl (subst (λ (c : Channel). FilesFront p most c now.first) first h.0, h.1 ∙ answer)
+moved_front m p most was middle now answer first (inr h) = inr (moved_part m p most was middle now answer h)
+
+-- ---- what was left
+
+-- the words' model is solved
+solves : (names : Option Files) (words : List (List ℕ)) (search : Search) (was middle now : Sight) (r : ℕ) →
+    ChangesInputs was middle → now ≡ with_output Out.Answer now.answer (with_output Out.First now.first middle) → Searches names words search → ReadsToEnd words middle →
+    Solved search.model search.problem search.conflicts r middle now → SolvesModel names words r was now
+solves names words search was middle now r same rest s ended h = record {
+  model = s.name;
+  out = string_bytes search.out;
+  most = search.conflicts;
+  asked = s.asked;
+  m = search.model;
+  given = s.given;
+  ended =
+      subst IsAtEnd (sym (ap (λ (t : Sight). t.model) rest))
+      (model_ended ended.request words middle ended.asked ended.ended (searched_words names words search s));
+  solved =
+      subst (λ (p : Csp). Solved search.model p search.conflicts r was now) s.problem.posed
+      (moved_solved search.model search.problem search.conflicts r was middle now (ap (λ (t : Sight). t.answer) same) h);
+}
+
+-- fronts of its scaffold and of its text stand there
+solves_part : (names : Option Files) (words : List (List ℕ)) (search : Search) (was middle now : Sight) →
+    ChangesInputs was middle → Searches names words search → SolvesFront search.model search.problem search.conflicts middle now → SolvesModelPart names words was now
+solves_part names words search was middle now same s h = record {
+  model = s.name;
+  out = string_bytes search.out;
+  most = search.conflicts;
+  asked = s.asked;
+  m = search.model;
+  given = s.given;
+  front =
+      subst (λ (p : Csp). SolvesFront search.model p search.conflicts was now) s.problem.posed
+      (moved_front search.model search.problem search.conflicts was middle now (ap (λ (t : Sight). t.answer) same) (ap (λ (t : Sight). t.first) same) h);
+}
+
+-- at status 0 or 4
+pub solved_search : (names : Option Files) (words : List (List ℕ)) (search : Search) (was middle now : Sight) (r before later : ℕ) →
+    ChangesInputs was middle → now ≡ with_output Out.Answer now.answer (with_output Out.First now.first middle) → Searches names words search → ReadsToEnd words middle →
+    IsSearched search r middle now before later → IsSolved words r → SolvesModel names words r was now
+solved_search names words search was middle now r before later same rest s ended (inl h) is = solves names words search was middle now r same rest s ended h.0
+solved_search names words search was middle now r before later same rest s ended (inr (inl h)) is = absurd (solved_small words r is (six r h.0))
+solved_search names words search was middle now r before later same rest s ended (inr (inr h)) is = absurd (solved_small words r is (seven r h.0))
+
+-- at status 6
+pub front_search : (names : Option Files) (words : List (List ℕ)) (search : Search) (was middle now : Sight) (r before later : ℕ) →
+    ChangesInputs was middle → Searches names words search → IsSearched search r middle now before later → r ≡ 6 → SolvesModelPart names words was now
+front_search names words search was middle now r before later same s (inl h) e = absurd (whole r (outcome_ends r h.0.outcome h.0.stands) (six r e))
+front_search names words search was middle now r before later same s (inr (inl h)) e = solves_part names words search was middle now same s h.1
+front_search names words search was middle now r before later same s (inr (inr h)) e = absurd (six_or_seven r e h.0)
+
+-- at status 7
+pub left_search : (names : Option Files) (words : List (List ℕ)) (search : Search) (was middle now : Sight) (r before later : ℕ) →
+    ChangesInputs was middle → Searches names words search → IsSearched search r middle now before later → r ≡ 7 → SolvesModelPart names words was now
+left_search names words search was middle now r before later same s (inl h) e = absurd (whole r (outcome_ends r h.0.outcome h.0.stands) (seven r e))
+left_search names words search was middle now r before later same s (inr (inl h)) e = absurd (six_or_seven r h.0 e)
+left_search names words search was middle now r before later same s (inr (inr h)) e = solves_part names words search was middle now same s h.1
+
+-- for want of memory nothing is told
+pub untold_search : (search : Search) (was middle now : Sight) (r before later : ℕ) →
+    ChangesInputs was middle → IsSearched search r middle now before later → r ≡ 7 → now.answer ≡ was.answer
+untold_search search was middle now r before later same (inl h) e = absurd (whole r (outcome_ends r h.0.outcome h.0.stands) (seven r e))
+untold_search search was middle now r before later same (inr (inl h)) e = absurd (six_or_seven r h.0 e)
+untold_search search was middle now r before later same (inr (inr h)) e = h.2 ∙ ap (λ (t : Sight). t.answer) same
+
+-- a failed write is counted
+pub rose_search : (search : Search) (middle now : Sight) (r before between later : ℕ) → between ≡ before → IsSearched search r middle now between later → r ≡ 6 → Rose before later
+rose_search search middle now r before between later same (inl h) e = absurd (whole r (outcome_ends r h.0.outcome h.0.stands) (six r e))
+rose_search search middle now r before between later same (inr (inl h)) e = subst (λ (n : ℕ). Rose n later) same h.2
+rose_search search middle now r before between later same (inr (inr h)) e = absurd (six_or_seven r e h.0)
+
+kept_count : (before between later : ℕ) → between ≡ before → later ≡ between → before < later → ⊥
+kept_count before between later e f g = omega (arith, e, f, g)
+
+-- and what is counted is told, or is want of memory
+pub seen_search : (search : Search) (middle now : Sight) (words : List (List ℕ)) (r before between later : ℕ) → between ≡ before → IsSolve words → IsSearched search r middle now between later →
+    before < later → (r ≡ 6) ⊎ ((r ≡ 7) × IsSolve words)
+seen_search search middle now words r before between later same solve (inl h) more = absurd (kept_count before between later same h.1 more)
+seen_search search middle now words r before between later same solve (inr (inl h)) more = inl h.0
+seen_search search middle now words r before between later same solve (inr (inr h)) more = inr (h.0, solve)

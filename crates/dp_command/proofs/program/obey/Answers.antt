@@ -1,0 +1,18 @@
+-- What a command asks for is what its reply belongs to.
+use Rattle.std.proofs.Common.{sym, subst}
+use Rattle.dp_command.specs.Asked.{asked}
+use Rattle.dp_command.specs.Replies.{RepliesTo}
+use Rattle.dp_command.specs.declared.words.Command.{Command}
+use Rattle.dp_command.proofs.program.obey.Goals as goal
+
+pub returns-in_ok-check-in-Check-clause-due : goal.returns-in_ok-check-in-Check-clause-due
+returns-in_ok-check-in-Check-clause-due g c =
+    subst (λ (k : Command). RepliesTo (g.D.Desk.sight c.args.desk.now).names (asked k) c.in_ok-check-in-Check.field-0) (sym c.in-Check.is) c.in_ok-check-in-Check.ensures.due
+
+pub returns-in_ok-show-in-Show-clause-due : goal.returns-in_ok-show-in-Show-clause-due
+returns-in_ok-show-in-Show-clause-due g c =
+    subst (λ (k : Command). RepliesTo (g.D.Desk.sight c.args.desk.now).names (asked k) c.in_ok-show-in-Show.field-0) (sym c.in-Show.is) c.in_ok-show-in-Show.ensures.due
+
+pub returns-in_ok-process-in-Process-clause-due : goal.returns-in_ok-process-in-Process-clause-due
+returns-in_ok-process-in-Process-clause-due g c =
+    subst (λ (k : Command). RepliesTo (g.D.Desk.sight c.args.desk.now).names (asked k) c.in_ok-process-in-Process.field-0) (sym c.in-Process.is) c.in_ok-process-in-Process.ensures.due

@@ -1,0 +1,126 @@
+use crate::tests::{MODEL, desk_of};
+use crate::{Command, read_words, run};
+use dp_desk::Out;
+use std::test::Fail;
+
+#[test]
+fn words_are_commands(rt: HostRuntime) -> Result<(), Fail> {
+    let check = Command::Check {
+        model: "show",
+        log: "check",
+    };
+    assert_eq!(rt; read_words(&["check", "show", "check"]), Some(check));
+    assert_eq!(rt;
+        read_words(&["show", "show"]),
+        Some(Command::Show { log: "show" })
+    );
+    assert_eq!(rt; read_words(&["show", "m", "l"]), None);
+    let process = Command::Process {
+        model: "process",
+        scaffold: "s",
+        out: "m",
+    };
+    assert_eq!(rt;
+        read_words(&["process", "process", "s", "m"]),
+        Some(process)
+    );
+    Ok(())
+}
+
+#[test]
+fn a_number_of_nogoods_is_an_option(rt: HostRuntime) -> Result<(), Fail> {
+    let rows = [
+        ("1", 1),
+        ("0001", 1),
+        ("0000000001", 1),
+        ("4000000000", 4_000_000_000),
+        ("1234567890", 1_234_567_890),
+    ];
+    for (digits, conflicts) in rows {
+        let solve = Command::Solve {
+            model: "solve",
+            out: "--conflicts",
+            conflicts,
+        };
+        assert_eq!(rt;
+            read_words(&["solve", "solve", "--conflicts", "--conflicts", digits]),
+            Some(solve)
+        );
+    }
+    let solve = Command::Solve {
+        model: "m",
+        out: "o",
+        conflicts: 1_000_000,
+    };
+    assert_eq!(rt; read_words(&["solve", "m", "o"]), Some(solve));
+    for digits in [
+        "",
+        "0",
+        "0000000000",
+        "00000000001",
+        "4000000001",
+        "9999999999",
+        "99999999999",
+        "+1",
+        "-1",
+        "1 ",
+        " 1",
+        "1_0",
+        "1.0",
+        "0x1",
+        "one",
+    ] {
+        assert_eq!(rt;
+            read_words(&["solve", "m", "o", "--conflicts", digits]),
+            None
+        );
+    }
+    Ok(())
+}
+
+#[test]
+fn words_are_judged_first(rt: HostRuntime) -> Result<(), Fail> {
+    let alloc = rt.alloc();
+    let none: [&str; 0] = [];
+    let rows = [
+        none.as_slice(),
+        &["check"],
+        &["check", "m"],
+        &["check", "m", "l", "x"],
+        &["solve"],
+        &["solve", "m"],
+        &["Solve", "m", "o"],
+        &["solve", "m", "o", "--conflicts"],
+        &["solve", "m", "o", "--conflicts", "0"],
+        &["solve", "m", "o", "--Conflicts", "1"],
+        &["solve", "m", "o", "--conflicts", "1", "x"],
+        &["solve", "m", "o", "--conflicts", "1", "--conflicts", "2"],
+        &["solve", "--conflicts", "1", "m", "o"],
+        &["Check", "m", "l"],
+        &["show"],
+        &["show", "l", "x"],
+        &["Show", "l"],
+        &["l", "show"],
+        &["process"],
+        &["process", "m", "l"],
+        &["process", "m", "l", "o", "x"],
+        &["Process", "m", "l", "o"],
+    ];
+    for words in rows {
+        let mut desk = desk_of(alloc, MODEL, b"", 1_000_000, &[2])?;
+        assert_eq!(rt; run(alloc, words, &mut desk), 2, "at {words:?}");
+        assert_eq!(rt;
+            desk.written(Out::Answer),
+            Some(b"words not understood\n".as_slice())
+        );
+        assert_eq!(rt; desk.written(Out::First), None, "at {words:?}");
+    }
+    let mut desk = desk_of(alloc, MODEL, b"", 4, &[3])?;
+    assert_eq!(rt;
+        run(alloc, &["check"], &mut desk),
+        6,
+        "the third write fails"
+    );
+    assert_eq!(rt; desk.written(Out::Answer), Some(b"words no".as_slice()));
+    Ok(())
+}
