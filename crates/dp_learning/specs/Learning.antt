@@ -29,7 +29,7 @@ pub record IsNew (p : Posed) (before : List (List Atomic)) (nogood : List Atomic
   pub last : Atomic
   pub split : nogood ≡ others ++ last ∷ []
   pub rests : end_after p before others ≡ Quiet
-  pub open : entails (left_after p before others) (negated last) ≡ false
+  pub leaves : entails (left_after p before others) (negated last) ≡ false
 
 -- it is on the problem's variables, follows from those before it, and is new
 pub record IsLearned (p : Posed) (before : List (List Atomic)) (nogood : List Atomic) : Type 0 where

@@ -1,6 +1,6 @@
 -- How many nogoods can be learned: atoms by the initial values that they keep.
-use Rattle.std.specs.Prelude.{◌≡◌, ℕ, ◌<◌, ◌^◌, List, [], ◌∷◌, ◌++◌, length, map, filter, not, ◌&&◌, Bool, true, false, ℤ}
-use Rattle.std.specs.List.{flat_map, list_any, sum_by}
+use Rattle.std.specs.Prelude.{ℕ, List, [], ◌∷◌, length, map, filter, not, ◌&&◌, Bool, true, false, ℤ}
+use Rattle.std.specs.List.{flat_map, sum_by}
 use Rattle.std.specs.Ordering.{int_eq}
 use Rattle.dp_domain.specs.Atoms.{Atomic, meets}
 use Rattle.dp_domain.specs.States.{Domains, values}

@@ -1,1 +1,4 @@
 pub mod Outcomes
+pub mod Marks
+pub mod Descents
+pub mod Rounds

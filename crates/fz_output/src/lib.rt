@@ -1,16 +1,8 @@
-//! The text of a solution of a model (a stand-in: the crate is written elsewhere).
+//! Solutions as text: what a model marks for printing, with the values of an assignment.
 #![tactic(auto)]
 
-ghost use Rattle.std.specs.Prelude.{◌≡◌, IfOk};
-ghost use Rattle.fz_output.specs.Output.{solution_lines};
+mod arrays;
+mod lines;
+mod values;
 
-use dp_base::{Assignment, Memory, Text};
-use fz_model::Model;
-use std::alloc::Global;
-
-/// The lines of the marked variables and arrays.
-pub fn solution_lines(_alloc: Global, _model: &Model, _values: &Assignment) -> Result<Text, Memory>
-    ensures { IfOk result (λ text. text ≡ solution_lines _model.now _values.now) }
-{
-    Err(Memory)
-}
+pub use lines::solution_lines;

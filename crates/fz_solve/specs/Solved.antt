@@ -1,12 +1,11 @@
 -- What a solved model leaves of a desk, and that what it prints is true of the model.
-use Rattle.std.specs.Prelude.{◌≡◌, ◌⊎◌, ◌×◌, ℕ, ◌≤◌, List, ◌++◌, length, IfSome, Option, Some, ℤ, ◌≤ℤ◌}
+use Rattle.std.specs.Prelude.{◌≡◌, ◌⊎◌, ℕ, ◌≤◌, List, ◌++◌, length, IfSome, Option, Some, ℤ, ◌≤ℤ◌}
 use Rattle.dp_desk.specs.Channel.{Channel, Grows, GrowsByPart, Shut, Hidden, Shown}
 use Rattle.dp_desk.specs.Sight.{Sight}
 use Rattle.dp_domain.specs.Atoms.{Atomic}
 use Rattle.dp_domain.specs.declared.verdict.Verdict.{Verdict}
 use Rattle.dp_learning.specs.Learning.{AreLearned, Concludes}
 use Rattle.dp_learning.specs.Scaffolds.{scaffold_of}
-use Rattle.dp_learning.specs.Solutions.{assigned}
 use Rattle.dp_parts.specs.Problems.{Csp, posed}
 use Rattle.dp_solver.specs.Outcomes.{IsOutcome}
 use Rattle.dp_solver.specs.declared.outcome.Outcome.{Outcome}
@@ -14,7 +13,7 @@ use Rattle.dp_solver.specs.declared.outcome.Outcome.TheVariants.{Solution, Unsat
 use Rattle.fz_model.specs.Models.{Plan}
 use Rattle.fz_model.specs.declared.model.ModelGoal.{ModelGoal}
 use Rattle.fz_model.specs.declared.model.ModelGoal.TheVariants.{Satisfy, Minimize, Maximize}
-use Rattle.fz_sat.specs.Satisfies.{Satisfies, objective_of}
+use Rattle.fz_sat.specs.Satisfies.{Satisfies, objective_of, valuation}
 use Rattle.fz_solve.specs.Printed.{outcome_status, outcome_text}
 
 -- ---- the truth of an outcome
@@ -27,15 +26,15 @@ IsAsGood (Maximize place) v w = w ≤ℤ v
 
 -- the numbers satisfy the model, and no assignment that does has a better value of its objective
 pub record IsBest (m : Plan) (numbers : List ℤ) : Type 0 where
-  pub satisfies : Satisfies m (assigned numbers)
-  pub best : (s : ℕ → ℤ) (v w : ℤ) → Satisfies m s → objective_of m (assigned numbers) ≡ Some v → objective_of m s ≡ Some w → IsAsGood m.goal v w
+  pub satisfies : Satisfies m (valuation numbers)
+  pub best : (s : ℕ → ℤ) (v w : ℤ) → Satisfies m s → objective_of m (valuation numbers) ≡ Some v → objective_of m s ≡ Some w → IsAsGood m.goal v w
 
 -- what the outcome says is so
 abbrev pub IsTruth : Plan → Outcome → Type 0
-IsTruth m (Solution numbers) = Satisfies m (assigned numbers)
+IsTruth m (Solution numbers) = Satisfies m (valuation numbers)
 IsTruth m Unsat = (s : ℕ → ℤ) → Satisfies m s → ⊥
 IsTruth m (Optimal numbers bound) = IsBest m numbers
-IsTruth m (Unknown best) = IfSome best (λ numbers. Satisfies m (assigned numbers))
+IsTruth m (Unknown best) = IfSome best (λ numbers. Satisfies m (valuation numbers))
 
 -- ---- the file and the answer
 
@@ -50,6 +49,15 @@ abbrev pub HoldsFront : Channel → List ℕ → Type 0
 HoldsFront Shut text = ⊥
 HoldsFront Hidden text = Unit {0}
 HoldsFront (Shown bytes) text = (rest : List ℕ) × (text ≡ bytes ++ rest)
+
+-- the output holds the whole scaffold of this outcome of the problem
+pub record HoldsAll (p : Csp) (most : ℕ) (now : Channel) (outcome : Outcome) : Type 0 where
+  pub nogoods : List (List Atomic)
+  pub claim : Option Verdict
+  pub learned : AreLearned (posed p) nogoods
+  pub few : length nogoods ≤ most
+  pub outcome_is : IsOutcome p most nogoods claim outcome
+  pub file : Holds now (scaffold_of p nogoods claim)
 
 -- The first file holds the scaffold of an outcome of the problem: at most so many nogoods, each learned behind those before
 -- it, and what is claimed. The answer grew by the outcome's text, whose status this is; and what it says is true of the model.

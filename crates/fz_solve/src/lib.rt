@@ -1,6 +1,10 @@
 //! Solves a model over a desk: its scaffold goes to a file, its solution text is the answer.
 #![tactic(auto)]
 
+mod printing;
 mod solving;
 
 pub use solving::solve_model;
+
+#[cfg(test)]
+mod tests;

@@ -1,18 +1,25 @@
 // Solving a problem.
 
 ghost use Rattle.std.specs.Prelude.{◌≡◌, ◌≤◌, ◌^◌, IfOk, OnErr, length};
-ghost use Rattle.dp_desk.specs.Channel.{IsOpen};
+ghost use Rattle.dp_desk.specs.Channel.{Channel, IsOpen};
 ghost use Rattle.dp_desk.specs.Sight.{output, with_output};
 ghost use Rattle.dp_domain.specs.States.{AreOf, cut_all};
 ghost use Rattle.dp_learning.specs.Solutions.{cut_problem};
 ghost use Rattle.dp_learning.specs.Sorts.{sort_count};
 ghost use Rattle.dp_parts.specs.Problems.{IsGoalOf};
+ghost use Rattle.dp_solver.specs.Marks.{asked};
+ghost use Rattle.dp_solver.specs.Rounds.{IsFresh, IsSearching};
 ghost use Rattle.dp_solver.specs.Outcomes.{HasWriteCause, IsDecided, Solves, SolvesInPart};
 
+use crate::round::{Round, one_round};
+use crate::task::{Search, Task};
 use crate::{Outcome, SolveFault};
+use dp_base::Memory;
 use dp_desk::{Desk, Out};
 use dp_domain::Atom;
+use dp_engine::Engine;
 use dp_parts::{Goal, Problem};
+use dp_writer::Writer;
 use std::alloc::Global;
 
 /// Solves a problem by its own goal, as `solve_cut` does without atoms.
@@ -65,5 +72,58 @@ pub fn solve_cut<D: Desk>(
     ensures rest { D.sight desk.new ≡ with_output out (output out (D.sight desk.new)) (D.sight desk.old) }
     ensures other { D.faults_in desk.new ≡ D.faults_in desk.old }
 {
-    Err(SolveFault::Memory)
+    let task = Task {
+        alloc,
+        problem,
+        atoms,
+        goal,
+        most: conflicts,
+    };
+    let mut search = start(&task)?;
+    search_on(&task, &mut search, desk, out)
+}
+
+/// A search that stands at the initial domains.
+fn start<'p>(task: &Task<'p>) -> Result<Search<'p>, Memory>
+    requires atoms { AreOf task.now.problem.now.initial task.now.atoms.now }
+    requires goal { IsGoalOf (length task.now.problem.now.initial) task.now.goal }
+    ensures { IfOk result (IsFresh (asked task.now)) }
+{
+    // What a problem keeps is known by a look at it.
+    let _goal = task.problem.goal();
+    let mut engine = Engine::new(task.alloc, task.problem, &[])?;
+    engine.assume(task.atoms)?;
+    let root = engine.mark();
+    Ok(Search {
+        engine,
+        root,
+        writer: Writer::new(task.alloc),
+        learned: 0,
+    })
+}
+
+/// Searches round after round, until the outcome is known.
+fn search_on<D: Desk>(
+    task: &Task,
+    search: &mut Search,
+    desk: &mut D,
+    out: Out,
+) -> Result<Outcome, SolveFault>
+    ghost was: { Channel }
+    requires few { task.now.most ≤ 4000000000 }
+    requires search { IsSearching (asked task.now) task.now.most was (output out (D.sight desk.old)) search.old }
+    ensures solved { IfOk result (Solves (asked task.now) task.now.most was (output out (D.sight desk.new))) }
+    ensures part { OnErr result (SolvesInPart (asked task.now) task.now.most was (output out (D.sight desk.new))) }
+    ensures cause { HasWriteCause (D.faults_out desk.old) (D.faults_out desk.new) result }
+    ensures rest { D.sight desk.new ≡ with_output out (output out (D.sight desk.new)) (D.sight desk.old) }
+    ensures other { D.faults_in desk.new ≡ D.faults_in desk.old }
+{
+    let mut best = None;
+    loop {
+        let end = one_round(task, search, best, desk, out)?;
+        match end {
+            Round::Ended(outcome) => return Ok(outcome),
+            Round::Open(found) => best = found,
+        }
+    }
 }

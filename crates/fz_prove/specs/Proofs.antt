@@ -1,0 +1,70 @@
+-- What proving a model in memory ends with: it is solved, the scaffold is processed, and the log is checked.
+use Rattle.std.specs.Prelude.{◌≡◌, ℕ, ◌≤◌, List, length, Option, Some, None}
+use Rattle.dp_domain.specs.Atoms.{Atomic}
+use Rattle.dp_domain.specs.declared.verdict.Verdict.{Verdict}
+use Rattle.dp_judge.specs.Logs.{judged_log}
+use Rattle.dp_judge.specs.declared.answer.LogAnswer.{LogAnswer}
+use Rattle.dp_judge.specs.declared.answer.LogAnswer.TheVariants as judged
+use Rattle.dp_learning.specs.Learning.{AreLearned}
+use Rattle.dp_learning.specs.Scaffolds.{scaffold_of}
+use Rattle.dp_parts.specs.Problems.{Csp, posed}
+use Rattle.dp_process.specs.Answers.{IsFailingAt}
+use Rattle.dp_process.specs.Met.{EachMetFollows}
+use Rattle.dp_process.specs.Processed.{log_of}
+use Rattle.dp_replay.specs.Accepting.{AreShort}
+use Rattle.dp_reread.specs.Rereading.{IsInLimits}
+use Rattle.dp_scaffold.specs.Scaffolds.{Learned}
+use Rattle.dp_scaffold.specs.Texts.{scaffold_text}
+use Rattle.dp_scaffold.specs.declared.answer.ScaffoldAnswer.{ScaffoldAnswer}
+use Rattle.dp_scaffold.specs.declared.answer.ScaffoldAnswer.TheVariants as gathered
+use Rattle.dp_solver.specs.Outcomes.{IsOutcome}
+use Rattle.dp_solver.specs.declared.outcome.Outcome.{Outcome}
+use Rattle.dp_writer.specs.Steps.{lines, text_of}
+use Rattle.fz_model.specs.Models.{Plan}
+use Rattle.fz_prove.specs.declared.proof.Proof.{Proof}
+use Rattle.fz_prove.specs.declared.proof.Proof.TheVariants.{Unclaimed, Accepted, ScaffoldUnread, ScaffoldRefused, NotFollowing, LogUnread, LogRefused}
+use Rattle.fz_solve.specs.Printed.{outcome_status, outcome_text}
+use Rattle.fz_solve.specs.Solved.{IsTruth}
+
+-- the end by the answer for the log, behind the solution's text
+abbrev pub log_end : List ℕ → LogAnswer → Proof
+log_end text (judged.Accepted verdict) = Accepted text verdict
+log_end text (judged.Unread refusal) = LogUnread refusal
+log_end text (judged.Refused refusal line) = LogRefused refusal line
+
+-- the end of a scaffold: each nogood that it rests on follows, and its log is judged so; or the last that does not is named
+abbrev pub IsEndOf : Csp → List ℕ → Learned → Proof → Type 0
+IsEndOf p text s (NotFollowing place line id) = IsFailingAt p s place line id
+IsEndOf p text s proof = EachMetFollows (posed p) s.nogoods × (proof ≡ log_end text (judged_log (posed p) (text_of (log_of p s))))
+
+-- the end by the answer for the scaffold's text
+abbrev pub IsEnd : Csp → List ℕ → ScaffoldAnswer → Proof → Type 0
+IsEnd p text (gathered.Given s) proof = IsEndOf p text s proof
+IsEnd p text (gathered.Unread refusal) proof = proof ≡ ScaffoldUnread refusal
+IsEnd p text (gathered.Refused refusal line) proof = proof ≡ ScaffoldRefused refusal line
+
+-- the end of an outcome: told alone where nothing is claimed, else by what becomes of its scaffold
+abbrev pub IsEnding : Plan → Csp → Outcome → List (List Atomic) → Option Verdict → Proof → Type 0
+IsEnding m p outcome nogoods None proof = proof ≡ Unclaimed (outcome_text m outcome) (outcome_status outcome)
+IsEnding m p outcome nogoods (Some claim) proof =
+    IsEnd p (outcome_text m outcome) (scaffold_text (posed p) (scaffold_of p nogoods (Some claim))) proof
+
+-- where neither the scaffold nor its log passes a limit, the log is accepted with the claim
+abbrev pub IsProven : Plan → Csp → Outcome → List (List Atomic) → Option Verdict → Proof → Type 0
+IsProven m p outcome nogoods None proof = Unit {0}
+IsProven m p outcome nogoods (Some claim) proof =
+    IsInLimits p nogoods claim → ((s : Learned) → scaffold_text (posed p) (scaffold_of p nogoods (Some claim)) ≡ gathered.Given s → AreShort (lines (log_of p s)) (text_of (log_of p s)))
+    → proof ≡ Accepted (outcome_text m outcome) claim
+
+-- A search of the problem has an outcome: at most so many nogoods, each learned behind those before it, and what is claimed. What
+-- it says is true of the model; and this is its end, which is acceptance where no limit is passed.
+pub record Proves (m : Plan) (p : Csp) (most : ℕ) (proof : Proof) : Type 0 where
+  pub outcome : Outcome
+  pub nogoods : List (List Atomic)
+  pub claim : Option Verdict
+  pub learned : AreLearned (posed p) nogoods
+  pub few : length nogoods ≤ most
+  pub outcome_is : IsOutcome p most nogoods claim outcome
+  pub truth : IsTruth m outcome
+  pub ending : IsEnding m p outcome nogoods claim proof
+  pub proven : IsProven m p outcome nogoods claim proof

@@ -1,0 +1,8 @@
+//! Proves a model in memory: it is solved, the scaffold is made into a log, and the log is checked.
+#![tactic(auto)]
+
+mod proof;
+mod proving;
+
+pub use proof::Proof;
+pub use proving::prove_model;
