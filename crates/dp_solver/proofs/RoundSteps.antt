@@ -5,6 +5,7 @@ use Rattle.std.specs.Option.{option_map}
 use Rattle.std.proofs.lemmas.List.{length-map}
 use Rattle.std.proofs.Math.Seq.{get_or-append_seam}
 use Rattle.dp_base.specs.Lists.{Each}
+use Rattle.dp_base.proofs.Lists.{Each-append}
 use Rattle.dp_desk.specs.Channel.{Channel, Grows, GrowsByPart, IsOpen as IsOpened}
 use Rattle.dp_desk.proofs.Channels.{grows_by_all, grows_by_none}
 use Rattle.dp_domain.specs.Atoms.{Atomic}
@@ -14,7 +15,7 @@ use Rattle.dp_domain.specs.declared.verdict.Verdict.TheVariants.{Unsat as NoSolu
 use Rattle.dp_domain.proofs.StateLaws.{length-cut_all}
 use Rattle.dp_engine.specs.Engines.{KeepsParts, KeepsStates, Propagation, Starts}
 use Rattle.dp_learning.specs.Learning.{AreLearned, Concludes, denial_of, end_after}
-use Rattle.dp_learning.specs.Scaffolds.{scaffold_of}
+use Rattle.dp_learning.specs.Scaffolds.{scaffold_of, steps_of}
 use Rattle.dp_learning.specs.Solutions.{IsSolutionOf, assigned, best_claim, cut_problem, open_claim}
 use Rattle.dp_learning.specs.Sorts.{sort_count}
 use Rattle.dp_learning.proofs.CountingLaws.{fewer-learned}
@@ -22,10 +23,12 @@ use Rattle.dp_learning.proofs.LearnedLaws.{learned-more, learned-none}
 use Rattle.dp_learning.proofs.SolutionLaws.{cut-problem-kept, rest-solution}
 use Rattle.dp_engine.specs.declared.turn.Turn.{Turn}
 use Rattle.dp_engine.specs.declared.turn.Turn.TheVariants.{Quiet}
+use Rattle.dp_lines.specs.Allowed.{IsAllowed}
 use Rattle.dp_parts.specs.ProblemLaws.{soundly_posed}
 use Rattle.dp_parts.specs.Problems.{Csp, IsGoalOf, IsProblem, posed}
 use Rattle.dp_parts.specs.declared.goal.Goal.{Goal}
 use Rattle.dp_parts.specs.declared.goal.Goal.TheVariants.{Satisfy}
+use Rattle.dp_rule_clause.specs.Nogoods.{IsOnce}
 use Rattle.dp_solver.specs.Descents.{IsConflict, IsFixed, IsLearnable, IsReached, lowest}
 use Rattle.dp_solver.specs.Marks.{IsOn, state_at}
 use Rattle.dp_solver.specs.Outcomes.{IsDecided, IsOutcome, Solves, SolvesInPart}
@@ -39,6 +42,7 @@ use Rattle.dp_solver.specs.declared.task.Best.{Best}
 use Rattle.dp_solver.specs.declared.task.Search.{Search}
 use Rattle.dp_solver.proofs.GoalSteps.{better-less, bound-on, goal-value, has-goal}
 use Rattle.dp_solver.proofs.MarkSteps.{on-added}
+use Rattle.dp_writer.specs.Steps.{lines}
 use Rattle.dp_writer.specs.Written.{IsClaimOf, IsOf, Written}
 
 -- ---- the search as it stands
@@ -63,6 +67,7 @@ pub searching-moved : (p : Csp) (most : ℕ) (was now : Channel) (s : Search) (e
 searching-moved p most was now s e h on same = record {
   on = on;
   learned = subst (AreLearned (posed p)) (sym same) h.learned;
+  once = subst (Each IsOnce) (sym same) h.once;
   count = ap (λ (ns : List (List Atomic)). length ns) same ∙ h.count;
   few = h.few;
   written = subst (λ (ns : List (List Atomic)). IsWritten p ns was now s.writer) (sym same) h.written;
@@ -82,13 +87,15 @@ claim-on q atoms goal (Some best) claim kept is e =
 
 -- what was still to be shown was claimed
 pub concluded : (p : Csp) (most : ℕ) (was old now : Channel) (s : Search) (best : Option Best) (outcome : Outcome) (claim : Verdict) → IsSearching p most was old s → IfSome best (IsBest p) → Concludes (posed p) s.engine.nogoods (claim_of best)
-    → outcome ≡ decided best → claim ≡ claim_of best → ((w : Channel) (nogoods : List (List Atomic)) → IsWritten p nogoods w old s.writer → Grows w now (scaffold_of p nogoods (Some claim))) → Solves p most was now outcome
+    → outcome ≡ decided best → claim ≡ claim_of best → ((w : Channel) (nogoods : List (List Atomic)) → IsWritten p nogoods w old s.writer → Grows w now (scaffold_of p nogoods (Some claim)) × Each IsAllowed (lines (steps_of p nogoods (Some claim)))) → Solves p most was now outcome
 concluded p most was old now s best outcome claim h is follows e c writes = subst (Solves p most was now) (sym e) (record {
   nogoods = s.engine.nogoods;
   claim = Some (claim_of best);
   learned = h.learned;
+  once = h.once;
   few = few-nogoods p most was old s h;
-  written = subst (λ (v : Verdict). Grows was now (scaffold_of p s.engine.nogoods (Some v))) c (writes was s.engine.nogoods h.written);
+  allowed = subst (λ (v : Verdict). Each IsAllowed (lines (steps_of p s.engine.nogoods (Some v)))) c (writes was s.engine.nogoods h.written).1;
+  written = subst (λ (v : Verdict). Grows was now (scaffold_of p s.engine.nogoods (Some v))) c (writes was s.engine.nogoods h.written).0;
   outcome = outcome-decided p most s.engine.nogoods best is follows;
 })
 
@@ -126,7 +133,9 @@ left-open p most was now s best outcome h is full rests e = subst (Solves p most
   nogoods = s.engine.nogoods;
   claim = None;
   learned = h.learned;
+  once = h.once;
   few = few-nogoods p most was now s h;
+  allowed = h.written.stands.lines;
   written = h.written.grows;
   outcome = record {
     solution = open_solution p best is;
@@ -176,6 +185,7 @@ added p most was old now s e left learned atoms written h room found same writes
     record {
       on = on-added p s.root s.engine e atoms h.on problem is found.learned.variables states;
       learned = subst (AreLearned (posed p)) (sym is) (learned-more (posed p) s.engine.nogoods atoms h.learned found.learned);
+      once = subst (Each IsOnce) (sym is) (Each-append IsOnce s.engine.nogoods (atoms ∷ []) h.once (found.once, tt));
       count = ap (λ (ns : List (List Atomic)). length ns) is ∙ many ∙ ap (λ (n : ℕ). n + 1) h.count ∙ sym one;
       few = omega (arith, one, room);
       written = subst (λ (ns : List (List Atomic)). IsWritten p ns was now left) (sym nogoods) (writes was s.engine.nogoods h.written);
@@ -210,7 +220,9 @@ solution-round p most was now before s old d (Ended outcome) h same is r at = su
   nogoods = s.engine.nogoods;
   claim = None;
   learned = h.learned;
+  once = h.once;
   few = few-nogoods p most was now s h;
+  allowed = h.written.stands.lines;
   written = h.written.grows;
   outcome = record {
     goal = at.1;
@@ -256,6 +268,7 @@ pub fresh-searching : (p : Csp) (most : ℕ) (was : Channel) (s : Search) → Is
 fresh-searching p most was s h opened = record {
   on = h.on;
   learned = subst (AreLearned (posed p)) (sym h.none) (learned-none (posed p));
+  once = subst (Each IsOnce) (sym h.none) tt;
   count = ap (λ (ns : List (List Atomic)). length ns) h.none ∙ sym h.count;
   few = subst (λ (n : ℕ). n ≤ most) (sym h.count) (omega arith);
   written = subst (λ (ns : List (List Atomic)). IsWritten p ns was was s.writer) (sym h.none) (record { grows = grows_by_none was opened; stands = h.empty });

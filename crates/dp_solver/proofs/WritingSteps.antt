@@ -5,11 +5,13 @@ use Rattle.std.specs.Prelude.{OnErr}
 use Rattle.std.specs.Option.{option_to_list}
 use Rattle.std.proofs.lemmas.List.{map-append}
 use Rattle.std.proofs.lemmas.List.Concat.{flat_map-append}
+use Rattle.dp_base.specs.Lists.{Each}
 use Rattle.dp_desk.specs.Channel.{Channel, Grows, GrowsByPart, IsOpen}
 use Rattle.dp_desk.proofs.Channels.{grows_by_all, grows_by_front, grows_then_part, grows_twice}
 use Rattle.dp_domain.specs.Atoms.{Atomic}
 use Rattle.dp_domain.specs.declared.verdict.Verdict.{Verdict}
 use Rattle.dp_learning.specs.Scaffolds.{scaffold_of, steps_of}
+use Rattle.dp_lines.specs.Allowed.{IsAllowed}
 use Rattle.dp_lines.specs.Spelling.{line_text}
 use Rattle.dp_lines.specs.declared.line.Line.{Line}
 use Rattle.dp_parts.specs.Problems.{Csp}
@@ -75,10 +77,12 @@ nogood-unwritten p atoms old w was nogoods before =
 
 -- the claim was written
 pub claim-written : (p : Csp) (claim : Verdict) (old new : Channel) (w added left : Written) (bytes : List ℕ) → Adds w (conclusion p claim) added → HandsOver added bytes left → bytes ≡ added.text → Grows old new bytes
-    → (was : Channel) (nogoods : List (List Atomic)) → IsWritten p nogoods was old w → Grows was new (scaffold_of p nogoods (Some claim))
+    → (was : Channel) (nogoods : List (List Atomic)) → IsWritten p nogoods was old w → Grows was new (scaffold_of p nogoods (Some claim)) × Each IsAllowed (lines (steps_of p nogoods (Some claim)))
 claim-written p claim old new w added left bytes adds hands is grows was nogoods before =
-    let d = step-drained w added left (steps_of p nogoods None) (conclusion p claim) bytes (scaffold_of p nogoods None) before.stands adds hands is in
-    subst (Grows was new) (d.1 ∙ ap (λ (steps : List Step). text_of steps) (steps-claim p nogoods claim)) (grows_twice was old new (scaffold_of p nogoods None) bytes before.grows grows)
+    let d = step-drained w added left (steps_of p nogoods None) (conclusion p claim) bytes (scaffold_of p nogoods None) before.stands adds hands is in (
+      subst (Grows was new) (d.1 ∙ ap (λ (steps : List Step). text_of steps) (steps-claim p nogoods claim)) (grows_twice was old new (scaffold_of p nogoods None) bytes before.grows grows),
+      subst (λ (steps : List Step). Each IsAllowed (lines steps)) (steps-claim p nogoods claim) d.0.lines,
+    )
 
 -- a part of it was written
 pub claim-part : (p : Csp) (claim : Verdict) (old new : Channel) (w added left : Written) (bytes : List ℕ) → Adds w (conclusion p claim) added → HandsOver added bytes left → bytes ≡ added.text → GrowsByPart old new bytes

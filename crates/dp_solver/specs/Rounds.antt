@@ -1,6 +1,7 @@
 -- What a search keeps from round to round, and what a round ends with.
 use Rattle.std.specs.Prelude.{◌≡◌, ℕ, ◌+◌, ◌-◌, ◌<◌, ◌≤◌, List, [], ◌∷◌, ◌++◌, length, Option, Some, None, IfSome, IsSome, map}
 use Rattle.std.specs.Option.{option_map}
+use Rattle.dp_base.specs.Lists.{Each}
 use Rattle.dp_desk.specs.Channel.{Channel, Grows, GrowsByPart}
 use Rattle.dp_domain.specs.Atoms.{Atomic}
 use Rattle.dp_domain.specs.States.{Domains, cut_all, total}
@@ -9,8 +10,10 @@ use Rattle.dp_domain.specs.declared.verdict.Verdict.TheVariants.{Unsat, Bound}
 use Rattle.dp_learning.specs.Learning.{AreLearned, denial_of}
 use Rattle.dp_learning.specs.Scaffolds.{scaffold_of, steps_of}
 use Rattle.dp_learning.specs.Solutions.{IsSolutionOf, best_claim}
+use Rattle.dp_lines.specs.Allowed.{IsAllowed}
 use Rattle.dp_parts.specs.Problems.{Csp, posed}
 use Rattle.dp_parts.specs.declared.goal.Goal.TheVariants.{Satisfy}
+use Rattle.dp_rule_clause.specs.Nogoods.{IsOnce}
 use Rattle.dp_solver.specs.Descents.{lowest}
 use Rattle.dp_solver.specs.Marks.{IsOn}
 use Rattle.dp_solver.specs.Outcomes.{Solves}
@@ -20,6 +23,7 @@ use Rattle.dp_solver.specs.declared.round.Round.{Round}
 use Rattle.dp_solver.specs.declared.round.Round.TheVariants.{Ended, Open}
 use Rattle.dp_solver.specs.declared.task.Best.{Best}
 use Rattle.dp_solver.specs.declared.task.Search.{Search}
+use Rattle.dp_writer.specs.Steps.{lines}
 use Rattle.dp_writer.specs.Written.{StandsFor, Written}
 
 -- ---- the best solution
@@ -65,10 +69,10 @@ abbrev pub WritesNogoodInPart : Csp → List Atomic → Channel → Written → 
 WritesNogoodInPart p atoms old before new =
     (was : Channel) (nogoods : List (List Atomic)) → IsWritten p nogoods was old before → GrowsByPart was new (scaffold_of p (nogoods ++ atoms ∷ []) None)
 
--- the claim was written after it
+-- the claim was written after it, in lines that a log may have
 abbrev pub WritesClaim : Csp → Verdict → Channel → Written → Channel → Type 0
 WritesClaim p claim old before new =
-    (was : Channel) (nogoods : List (List Atomic)) → IsWritten p nogoods was old before → Grows was new (scaffold_of p nogoods (Some claim))
+    (was : Channel) (nogoods : List (List Atomic)) → IsWritten p nogoods was old before → Grows was new (scaffold_of p nogoods (Some claim)) × Each IsAllowed (lines (steps_of p nogoods (Some claim)))
 
 -- or a part of it
 abbrev pub WritesClaimInPart : Csp → Verdict → Channel → Written → Channel → Type 0
@@ -84,10 +88,11 @@ pub record IsFresh (p : Csp) (s : Search) : Type 0 where
   pub empty : StandsFor s.writer [] []
   pub count : s.learned ≡ 0
 
--- the search stands on the problem; its nogoods are learned, at most so many, and written
+-- the search stands on the problem; its nogoods are learned, each without an atom twice, at most so many, and written
 pub record IsSearching (p : Csp) (most : ℕ) (was now : Channel) (s : Search) : Type 0 where
   pub on : IsOn p s.root s.engine
   pub learned : AreLearned (posed p) s.engine.nogoods
+  pub once : Each IsOnce s.engine.nogoods
   pub count : length s.engine.nogoods ≡ s.learned
   pub few : s.learned ≤ most
   pub written : IsWritten p s.engine.nogoods was now s.writer

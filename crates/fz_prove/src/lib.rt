@@ -1,8 +1,12 @@
 //! Proves a model in memory: it is solved, the scaffold is made into a log, and the log is checked.
 #![tactic(auto)]
 
+mod checking;
 mod proof;
 mod proving;
 
 pub use proof::Proof;
 pub use proving::prove_model;
+
+#[cfg(test)]
+mod tests;

@@ -1,15 +1,21 @@
 // Proving a model.
 
 ghost use Rattle.std.specs.Prelude.{◌≡◌, ◌↔◌, ◌≤◌, ℕ, ℤ, IfOk};
+ghost use Rattle.dp_desk.specs.InMemory.{told};
 ghost use Rattle.dp_lower.specs.Problem.{problem_of};
 ghost use Rattle.dp_parts.specs.Problems.{IsSolution};
+ghost use Rattle.fz_prove.specs.Checks.{IsSearched, IsTold};
 ghost use Rattle.fz_prove.specs.Proofs.{Proves};
 ghost use Rattle.fz_sat.specs.Satisfies.{Satisfies};
 
 use crate::Proof;
-use dp_base::Memory;
+use crate::checking::check_bytes;
+use dp_base::{Memory, Text};
+use dp_desk::{Desk, MemoryDesk, Out};
 use dp_parts::Problem;
+use dp_solver::{Outcome, solve};
 use fz_model::Model;
+use fz_solve::{outcome_status, outcome_text};
 use std::alloc::Global;
 
 /// Solves the problem of a model with at most so many nogoods, makes the scaffold into a log, and checks that, all in
@@ -26,5 +32,55 @@ pub fn prove_model(
     requires few { conflicts ≤ 4000000000 }
     ensures { IfOk result (Proves model.now problem.now conflicts) }
 {
-    Err(Memory)
+    // What a model and a problem keep, and that names lead back, is known by a look at them.
+    let _asked = model.goal();
+    let _names = problem.name_count();
+    let mut desk = MemoryDesk::new(alloc, Vec::new(alloc), usize::MAX, Vec::new(alloc));
+    let outcome = search(alloc, problem, conflicts, &mut desk)?;
+    match desk.written(Out::First) {
+        Some(scaffold) => {
+            let proof = tell(alloc, model, problem, &outcome, scaffold)?;
+            Ok(proof)
+        }
+        None => Err(Memory),
+    }
+}
+
+// Solves a problem; the first output of the desk takes its scaffold. In memory a write fails only for want of it.
+fn search(
+    alloc: Global,
+    problem: &Problem,
+    conflicts: u64,
+    desk: &mut MemoryDesk,
+) -> Result<Outcome, Memory>
+    requires some { 1 ≤ conflicts }
+    requires few { conflicts ≤ 4000000000 }
+    ensures { IfOk result (IsSearched problem.now conflicts (told desk.new).first) }
+{
+    if desk.open_out(Out::First, "").is_err() {
+        return Err(Memory);
+    }
+    match solve(alloc, problem, conflicts, desk, Out::First) {
+        Ok(outcome) => Ok(outcome),
+        Err(_) => Err(Memory),
+    }
+}
+
+// The end of an outcome, whose scaffold has these bytes.
+fn tell(
+    alloc: Global,
+    model: &Model,
+    problem: &Problem,
+    outcome: &Outcome,
+    scaffold: &[u8],
+) -> Result<Proof, Memory>
+    ensures { IfOk result (IsTold model.now problem.now scaffold.now outcome.now) }
+{
+    let text = Text::new(outcome_text(alloc, model, outcome)?);
+    match outcome {
+        Outcome::Unsat | Outcome::Optimal(..) => check_bytes(alloc, problem, text, scaffold),
+        Outcome::Solution(_) | Outcome::Unknown(_) => {
+            Ok(Proof::Unclaimed(text, outcome_status(outcome)))
+        }
+    }
 }

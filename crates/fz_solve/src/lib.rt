@@ -4,6 +4,7 @@
 mod printing;
 mod solving;
 
+pub use printing::{outcome_status, outcome_text};
 pub use solving::solve_model;
 
 #[cfg(test)]

@@ -13,7 +13,7 @@ use fz_output::solution_lines;
 use std::alloc::Global;
 
 /// The text of an outcome of the model.
-pub(crate) fn outcome_text(
+pub fn outcome_text(
     alloc: Global,
     model: &Model,
     outcome: &Outcome,
@@ -56,7 +56,7 @@ fn solution_text(
 }
 
 /// The status of an outcome: 4 where the most nogoods were learned.
-pub(crate) fn outcome_status(outcome: &Outcome) -> u8
+pub fn outcome_status(outcome: &Outcome) -> u8
     ensures { result ≡ spec.outcome_status outcome.now }
 {
     match outcome {

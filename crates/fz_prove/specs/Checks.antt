@@ -1,0 +1,61 @@
+-- What the steps of proving a model leave.
+use Rattle.std.specs.Prelude.{◌≡◌, ℕ, ◌≤◌, List, length, Option}
+use Rattle.dp_base.specs.Lists.{Each}
+use Rattle.dp_desk.specs.Channel.{Channel}
+use Rattle.dp_domain.specs.Atoms.{Atomic}
+use Rattle.dp_domain.specs.declared.verdict.Verdict.{Verdict}
+use Rattle.dp_learning.specs.Learning.{AreLearned}
+use Rattle.dp_learning.specs.Scaffolds.{scaffold_of, steps_of}
+use Rattle.dp_lines.specs.Allowed.{IsAllowed}
+use Rattle.dp_parts.specs.Problems.{Csp, posed}
+use Rattle.dp_process.specs.Met.{EachMetFollows}
+use Rattle.dp_process.specs.Processed.{log_of}
+use Rattle.dp_replay.specs.Accepting.{AreShort}
+use Rattle.dp_rule_clause.specs.Nogoods.{IsOnce}
+use Rattle.dp_scaffold.specs.Scaffolds.{Learned}
+use Rattle.dp_scaffold.specs.Texts.{scaffold_text}
+use Rattle.dp_scaffold.specs.declared.answer.ScaffoldAnswer.{ScaffoldAnswer}
+use Rattle.dp_scaffold.specs.declared.answer.ScaffoldAnswer.TheVariants as gathered
+use Rattle.dp_solver.specs.Outcomes.{IsOutcome}
+use Rattle.dp_solver.specs.declared.outcome.Outcome.{Outcome}
+use Rattle.dp_solver.specs.declared.outcome.Outcome.TheVariants.{Solution, Unsat, Optimal, Unknown}
+use Rattle.dp_writer.specs.Steps.{lines, text_of}
+use Rattle.fz_model.specs.Models.{Plan}
+use Rattle.fz_prove.specs.Proofs.{IsEnd}
+use Rattle.fz_prove.specs.declared.proof.Proof.{Proof}
+use Rattle.fz_prove.specs.declared.proof.Proof.TheVariants.{Unclaimed, Accepted}
+use Rattle.fz_solve.specs.Printed.{outcome_status, outcome_text}
+use Rattle.fz_solve.specs.Solved.{Holds}
+
+-- the output holds the whole scaffold of this outcome of the problem: what a solver wrote
+pub record IsSearched (p : Csp) (most : ℕ) (now : Channel) (outcome : Outcome) : Type 0 where
+  pub nogoods : List (List Atomic)
+  pub claim : Option Verdict
+  pub learned : AreLearned (posed p) nogoods
+  pub once : Each IsOnce nogoods
+  pub few : length nogoods ≤ most
+  pub allowed : Each IsAllowed (lines (steps_of p nogoods claim))
+  pub outcome_is : IsOutcome p most nogoods claim outcome
+  pub written : Holds now (scaffold_of p nogoods claim)
+
+-- where each nogood that the scaffold rests on follows and its log passes no limit, the log is accepted with its claim
+abbrev pub IsPassedOf : Csp → List ℕ → Learned → Proof → Type 0
+IsPassedOf p text s proof = EachMetFollows (posed p) s.nogoods → AreShort (lines (log_of p s)) (text_of (log_of p s)) → proof ≡ Accepted text s.claim
+
+-- the same of the scaffold of a text, if it is one
+abbrev pub IsPassed : Csp → List ℕ → ScaffoldAnswer → Proof → Type 0
+IsPassed p text (gathered.Given s) proof = IsPassedOf p text s proof
+IsPassed p text (gathered.Unread refusal) proof = Unit {0}
+IsPassed p text (gathered.Refused refusal line) proof = Unit {0}
+
+-- the end of a scaffold's bytes
+pub record IsChecked (p : Csp) (text bytes : List ℕ) (proof : Proof) : Type 0 where
+  pub ending : IsEnd p text (scaffold_text (posed p) bytes) proof
+  pub passed : IsPassed p text (scaffold_text (posed p) bytes) proof
+
+-- the end of an outcome, whose scaffold has these bytes
+abbrev pub IsTold : Plan → Csp → List ℕ → Outcome → Proof → Type 0
+IsTold m p bytes (Solution numbers) proof = proof ≡ Unclaimed (outcome_text m (Solution numbers)) (outcome_status (Solution numbers))
+IsTold m p bytes Unsat proof = IsChecked p (outcome_text m Unsat) bytes proof
+IsTold m p bytes (Optimal numbers bound) proof = IsChecked p (outcome_text m (Optimal numbers bound)) bytes proof
+IsTold m p bytes (Unknown best) proof = proof ≡ Unclaimed (outcome_text m (Unknown best)) (outcome_status (Unknown best))
