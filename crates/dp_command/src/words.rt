@@ -7,7 +7,7 @@ ghost use Rattle.dp_command.specs.Words.{AreNoCommand, AreOptions, IsCount, Spel
 #[cfg(test)]
 mod tests;
 
-// The most nogoods that a solve learns, where no option says another number.
+// The most nogoods that a solve or a proof learns, where no option says another number.
 const USUAL_CONFLICTS: u64 = 1_000_000;
 
 // The most that an option may say.
@@ -49,6 +49,13 @@ pub enum Command<'a> {
         /// The most nogoods that are learned.
         conflicts: u64,
     },
+    /// Solves a model, makes what is learned into a log, and judges that, all in memory.
+    Prove {
+        /// The name of the model's text.
+        model: &'a str,
+        /// The most nogoods that are learned.
+        conflicts: u64,
+    },
 }
 
 /// Reads the words of a command line, which stand behind the program's name. None exactly where they are no
@@ -72,11 +79,15 @@ pub fn read_words<'a>(words: &[&'a str]) -> Option<Command<'a>>
             }),
             None => None,
         },
+        ["prove", model, options @ ..] => match conflicts_of(options) {
+            Some(conflicts) => Some(Command::Prove { model, conflicts }),
+            None => None,
+        },
         _ => None,
     }
 }
 
-// The most nogoods that the options of a solve allow. None exactly where they are no options of it.
+// The most nogoods that the options of a solve or a proof allow. None exactly where they are no options of it.
 fn conflicts_of(options: &[&str]) -> Option<u64>
     ensures { let texts = map (λ w. w.now) options.now in MatchOption result ((most : ℕ) → AreOptions texts most → ⊥) (AreOptions texts) }
 {
