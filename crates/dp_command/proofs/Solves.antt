@@ -11,11 +11,11 @@ use Rattle.dp_solver.specs.declared.outcome.Outcome.TheVariants.{Solution, Unsat
 use Rattle.fz_model.specs.Models.{Plan}
 use Rattle.fz_solve.specs.Printed.{outcome_status, outcome_text}
 use Rattle.fz_solve.specs.Solved.{FilesFront, Solved, SolvedPart, SolvesFront}
-use Rattle.dp_command.proofs.Requests.{solve_is_no_check, solve_is_no_process, solve_is_no_show}
+use Rattle.dp_command.proofs.Requests.{solve_is_no_check, solve_is_no_process, solve_is_no_show, solve_proves_not}
 use Rattle.dp_command.specs.Due.{AreAtEnd, ChangesInputs, ReadsToEnd}
 use Rattle.dp_command.specs.Solving.{IsReplied, IsSolved, SolvesModel, SolvesModelPart}
 use Rattle.dp_command.specs.Tasks.{IsSearched, Searches}
-use Rattle.dp_command.specs.Words.{Request, Check, Show, Process, Solve, Spells, IsCheck, IsProcess, IsSolve}
+use Rattle.dp_command.specs.Words.{Request, Check, Show, Process, Solve, Prove, Spells, IsCheck, IsProcess, IsSolve}
 use Rattle.dp_command.specs.declared.task.Search.{Search}
 
 -- ---- the status
@@ -74,9 +74,9 @@ six_or_seven : (r : ℕ) → r ≡ 6 → r ≡ 7 → ⊥
 six_or_seven r e f = omega (arith, e, f)
 
 -- no reply has its status
-unreplied_by : (r : ℕ) → Ends r → r ≤ 3 → r ≢ 0 → ⊥
-unreplied_by r (inl (inl e)) f g = g e
-unreplied_by r (inl (inr e)) f g = omega (arith, e, f)
+unreplied_by : (r : ℕ) → Ends r → r ≤ 4 → (r ≢ 0) × (r ≢ 4) → ⊥
+unreplied_by r (inl (inl e)) f g = g.0 e
+unreplied_by r (inl (inr e)) f g = g.1 e
 unreplied_by r (inr (inl e)) f g = omega (arith, e, f)
 unreplied_by r (inr (inr e)) f g = omega (arith, e, f)
 
@@ -91,8 +91,8 @@ unopened words r (inr (inl e)) solve a b other = b e
 unopened words r (inr (inr e)) solve a b other = (other solve).1 e
 
 solved_small : (words : List (List ℕ)) (r : ℕ) → IsSolved words r → 6 ≤ r → ⊥
-solved_small words r (inl e) f = omega (arith, e, f)
-solved_small words r (inr (e, solve)) f = omega (arith, e, f)
+solved_small words r (solve, inl e) f = omega (arith, e, f)
+solved_small words r (solve, inr e) f = omega (arith, e, f)
 
 -- ---- the words
 
@@ -111,6 +111,7 @@ model_ended (Check model log) words now e h solve = h.0
 model_ended (Show log) words now e h solve = absurd (solve_is_no_show words log solve e)
 model_ended (Process model scaffold out) words now e h solve = h.0
 model_ended (Solve model out most) words now e h solve = h
+model_ended (Prove model most) words now e h solve = h
 
 -- ---- behind the reading
 

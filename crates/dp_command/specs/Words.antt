@@ -64,6 +64,18 @@ IsInRange (Process model scaffold out) = Unit {0}
 IsInRange (Solve model out most) = (1 ≤ most) × (most ≤ 4000000000)
 IsInRange (Prove model most) = (1 ≤ most) × (most ≤ 4000000000)
 
+-- it is no proof
+abbrev pub IsOther : Request → Type 0
+IsOther (Check model log) = Unit {0}
+IsOther (Show log) = Unit {0}
+IsOther (Process model scaffold out) = Unit {0}
+IsOther (Solve model out most) = Unit {0}
+IsOther (Prove model most) = ⊥
+
+-- the words are no command but, perhaps, a proof
+abbrev pub AreNoOther : List (List ℕ) → Type 0
+AreNoOther words = (request : Request) → IsOther request → Spells request words → ⊥
+
 -- the words are no command
 abbrev pub AreNoCommand : List (List ℕ) → Type 0
 AreNoCommand words = (request : Request) → Spells request words → ⊥

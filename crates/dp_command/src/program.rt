@@ -112,7 +112,7 @@ fn task_of<D: Desk>(alloc: Global, words: &[&str], desk: &mut D) -> Result<Task,
 
 // Reads and judges what a command asks for, and writes nothing.
 fn obey<D: Desk>(alloc: Global, command: Command<'_>, desk: &mut D) -> Result<Task, Trouble>
-    requires { IsInRange (asked command.entry) }
+    requires { IsInRange (asked command) }
     ensures due { IfOk result (IsTaskTo (D.sight desk.old).names (asked command.entry)) }
     ensures sound { IfOk result (IsSoundTaskTo (D.sight desk.old).names (asked command.entry)) }
     ensures ended { IfOk result (λ task. IfGood task (AreAtEnd (asked command.entry) (D.sight desk.new))) }

@@ -2,7 +2,7 @@
 
 ghost use Rattle.std.specs.Prelude.{ℕ, map, MatchOption};
 ghost use Rattle.dp_command.specs.Asked.{asked};
-ghost use Rattle.dp_command.specs.Words.{AreNoCommand, AreOptions, IsCount, Spells};
+ghost use Rattle.dp_command.specs.Words.{AreNoCommand, AreNoOther, AreOptions, IsCount, Spells};
 
 #[cfg(test)]
 mod tests;
@@ -64,6 +64,19 @@ pub fn read_words<'a>(words: &[&'a str]) -> Option<Command<'a>>
     ensures { let texts = map (λ w. w.now) words.now in MatchOption result (AreNoCommand texts) (λ command. Spells (asked command) texts) }
 {
     match words {
+        ["prove", model, options @ ..] => match conflicts_of(options) {
+            Some(conflicts) => Some(Command::Prove { model, conflicts }),
+            None => None,
+        },
+        _ => read_other(words),
+    }
+}
+
+// Reads the words of each command but a proof. None exactly where they are none.
+fn read_other<'a>(words: &[&'a str]) -> Option<Command<'a>>
+    ensures { let texts = map (λ w. w.now) words.now in MatchOption result (AreNoOther texts) (λ command. Spells (asked command) texts) }
+{
+    match words {
         ["check", model, log] => Some(Command::Check { model, log }),
         ["show", log] => Some(Command::Show { log }),
         ["process", model, scaffold, out] => Some(Command::Process {
@@ -77,10 +90,6 @@ pub fn read_words<'a>(words: &[&'a str]) -> Option<Command<'a>>
                 out,
                 conflicts,
             }),
-            None => None,
-        },
-        ["prove", model, options @ ..] => match conflicts_of(options) {
-            Some(conflicts) => Some(Command::Prove { model, conflicts }),
             None => None,
         },
         _ => None,
