@@ -26,7 +26,7 @@ use Rattle.fz_model.specs.declared.model.ModelGoal.TheVariants.{Satisfy, Minimiz
 use Rattle.fz_sat.specs.Args.{term_of}
 use Rattle.fz_sat.specs.Satisfies.{Satisfies, goal_value}
 use Rattle.dp_command.specs.Found.{IsProblemOf}
-use Rattle.dp_command.specs.Proved.{IsSideOf, IsTrueOf}
+use Rattle.dp_command.specs.Truths.{IsSideOf, IsTrueOf}
 use Rattle.dp_command.specs.Named.{claim_of}
 
 least_op : (op : Op) → is_at_least op ≡ true → op ≡ Ge

@@ -3,6 +3,8 @@ pub mod Requests
 pub mod Checks
 pub mod Shows
 pub mod Processes
+pub mod Rights
+pub mod Proves
 pub mod Says
 pub mod Solves
 pub mod Tasks

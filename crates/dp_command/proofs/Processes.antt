@@ -22,7 +22,7 @@ use Rattle.dp_scaffold.specs.declared.refusal.ScaffoldRefusal.{ScaffoldRefusal}
 use Rattle.dp_writer.specs.Steps as steps
 use Rattle.fz_model.specs.Models.{Plan}
 use Rattle.dp_command.proofs.Checks.{given_of}
-use Rattle.dp_command.proofs.Requests.{check_is_no_process, show_is_no_process}
+use Rattle.dp_command.proofs.Requests.{check_is_no_process, process_proves_not, show_is_no_process}
 use Rattle.dp_command.specs.Due.{Holds, IsFiled}
 use Rattle.dp_command.specs.Found.{IsFound}
 use Rattle.dp_command.specs.Outcomes.{IsDone, IsOutcome}
@@ -36,7 +36,7 @@ use Rattle.dp_command.specs.declared.outcome.Done.{Done}
 use Rattle.dp_command.specs.declared.outcome.Outcome.{Outcome}
 use Rattle.dp_command.specs.declared.outcome.Outcome.TheVariants as outcome
 use Rattle.dp_command.specs.declared.reply.Reply.{Reply}
-use Rattle.dp_command.specs.declared.reply.Reply.TheVariants.{NoCommand, ModelRefused, Accepted, Unread, Refused, Shown as ShownLog, Processed}
+use Rattle.dp_command.specs.declared.reply.Reply.TheVariants.{NoCommand, ModelRefused, Accepted, Unread, Refused, Shown as ShownLog, Processed, Proved}
 
 -- ---- a scaffold that is given was read whole
 
@@ -132,3 +132,4 @@ proof_of names words (Unread refusal) was now due process e filed = absurd cc
 proof_of names words (Refused refusal told) was now due process e filed = absurd cc
 proof_of names words (ShownLog shown) was now due process e filed = absurd (show_is_no_process words due.log process due.asked)
 proof_of names words (Processed o) was now due process e filed = proof_by names words o was now due e filed
+proof_of names words (Proved proving) was now due process e filed = absurd (process_proves_not words process (due.model, due.most, due.asked))

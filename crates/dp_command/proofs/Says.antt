@@ -8,17 +8,19 @@ use Rattle.dp_desk.specs.declared.desk.Out.TheVariants as Out
 use Rattle.dp_desk.proofs.Channels.{grows_by_none}
 use Rattle.dp_show.specs.declared.shown.Refusal.{Refusal as ShowRefusal}
 use Rattle.dp_command.proofs.Processes.{proof_of}
-use Rattle.dp_command.proofs.Requests.{process_is_no_check, show_is_no_check, solve_is_no_check, solve_is_no_process, solve_is_no_show}
+use Rattle.dp_command.proofs.Requests.{check_proves_not, process_is_no_check, show_is_no_check, solve_is_no_check, solve_is_no_process, solve_is_no_show, solve_proves_not}
 use Rattle.dp_command.specs.Due.{AreAtEnd, ChangesInputs, ChangesOutputs, Holds, HoldsFront, IsCut, IsFiled, LeavesUnread, ReadsToEnd, Said, SaidPart, Writes, WritesPart}
 use Rattle.dp_command.specs.Proved.{FilesProof, IsSound, SaysTruth}
 use Rattle.dp_command.specs.Replies.{Replies}
 use Rattle.dp_command.specs.Solving.{IsSolved}
-use Rattle.dp_command.specs.Texts.{file_of, outcome_file, outcome_status, read_fault, shown_status, status_of, text_of}
-use Rattle.dp_command.specs.Words.{Request, Check, Show, Process, Solve, IsCheck, IsProcess, IsSolve}
+use Rattle.dp_command.specs.Texts.{file_of, outcome_file, outcome_status, proving_status, read_fault, shown_status, status_of, text_of}
+use Rattle.dp_command.specs.Words.{Request, Check, Show, Process, Solve, Prove, IsCheck, IsProcess, IsSolve}
 use Rattle.dp_command.specs.declared.outcome.Outcome.{Outcome}
 use Rattle.dp_command.specs.declared.outcome.Outcome.TheVariants as outcome
+use Rattle.dp_command.specs.declared.proving.Proving.{Proving}
+use Rattle.dp_command.specs.declared.proving.Proving.TheVariants as proving
 use Rattle.dp_command.specs.declared.reply.Reply.{Reply}
-use Rattle.dp_command.specs.declared.reply.Reply.TheVariants.{NoCommand, ModelRefused, Accepted, Unread, Refused, Shown as ShownLog, Processed}
+use Rattle.dp_command.specs.declared.reply.Reply.TheVariants.{NoCommand, ModelRefused, Accepted, Unread, Refused, Shown as ShownLog, Processed, Proved}
 
 -- ---- a file
 
@@ -124,11 +126,11 @@ moved_part file text was middle now same w = record {
 not_six : (n : ℕ) → n ≤ 4 → n ≡ 6 → ⊥
 not_six n e f = omega (arith, e, f)
 
-beyond : (n m : ℕ) → n ≤ 3 → n ≡ m → 4 ≤ m → ⊥
+beyond : (n m : ℕ) → n ≤ 4 → n ≡ m → 5 ≤ m → ⊥
 beyond n m e f g = omega (arith, e, f, g)
 
--- the status of a reply is at most 3
-status_small : (reply : Reply) → status_of reply ≤ 3
+-- the status of a reply is at most 4
+status_small : (reply : Reply) → status_of reply ≤ 4
 status_small NoCommand = lit≤ tt
 status_small (ModelRefused refusal) = lit≤ tt
 status_small (Accepted claim) = lit≤ tt
@@ -136,35 +138,39 @@ status_small (Unread refusal) = lit≤ tt
 status_small (Refused refusal told) = lit≤ tt
 status_small (ShownLog shown) = shown_small shown.refusal
   where
-    shown_small : (refusal : Option ShowRefusal) → shown_status refusal ≤ 3
+    shown_small : (refusal : Option ShowRefusal) → shown_status refusal ≤ 4
     shown_small None = lit≤ tt
     shown_small (Some refusal) = lit≤ tt
 status_small (Processed o) = outcome_small o
   where
-    outcome_small : (o : Outcome) → outcome_status o ≤ 3
+    outcome_small : (o : Outcome) → outcome_status o ≤ 4
     outcome_small (outcome.Done done) = lit≤ tt
     outcome_small (outcome.Unread refusal) = lit≤ tt
     outcome_small (outcome.Refused refusal text) = lit≤ tt
     outcome_small (outcome.NotFollowing failing) = lit≤ tt
+status_small (Proved p) = proving_small p
+  where
+    proving_small : (p : Proving) → proving_status p ≤ 4
+    proving_small (proving.Solved text) = lit≤ tt
+    proving_small (proving.Unknown text) = lit≤ tt
+    proving_small (proving.Accepted text claim) = lit≤ tt
+    proving_small (proving.Unread refusal) = lit≤ tt
+    proving_small (proving.ScaffoldRefused refusal text) = lit≤ tt
+    proving_small (proving.NotFollowing number id) = lit≤ tt
+    proving_small (proving.LogRefused refusal text) = lit≤ tt
 
 -- what is handed over ends with no other status but 6
-pub handed_small : (reply : Reply) (text : List ℕ) (file : Option (List ℕ)) (was now : Sight) (r before later : ℕ) → WasHanded r (status_of reply) file text was now before later → (r ≤ 3) ⊎ (r ≡ 6)
-handed_small reply text file was now r before later (inl h) = inl (subst (λ (n : ℕ). n ≤ 3) (sym h.0) (status_small reply))
+pub handed_small : (reply : Reply) (text : List ℕ) (file : Option (List ℕ)) (was now : Sight) (r before later : ℕ) → WasHanded r (status_of reply) file text was now before later → (r ≤ 4) ⊎ (r ≡ 6)
+handed_small reply text file was now r before later (inl h) = inl (subst (λ (n : ℕ). n ≤ 4) (sym h.0) (status_small reply))
 handed_small reply text file was now r before later (inr h) = inr h.0
 
-pub not_seven : (r : ℕ) → (r ≤ 3) ⊎ (r ≡ 6) → r ≡ 7 → ⊥
+pub not_seven : (r : ℕ) → (r ≤ 4) ⊎ (r ≡ 6) → r ≡ 7 → ⊥
 not_seven r (inl e) f = omega (arith, e, f)
 not_seven r (inr e) f = omega (arith, e, f)
 
-not_four : (r : ℕ) → (r ≤ 3) ⊎ (r ≡ 6) → r ≡ 4 → ⊥
-not_four r (inl e) f = omega (arith, e, f)
-not_four r (inr e) f = omega (arith, e, f)
-
-six_not_zero : (r : ℕ) → r ≡ 6 → r ≡ 0 → ⊥
-six_not_zero r e f = omega (arith, e, f)
-
-pub three_small : (n : ℕ) → n ≤ 3 → n ≤ 4
-three_small n e = omega (arith, e)
+six_not_solved : (r : ℕ) → r ≡ 6 → (r ≡ 0) ⊎ (r ≡ 4) → ⊥
+six_not_solved r e (inl f) = omega (arith, e, f)
+six_not_solved r e (inr f) = omega (arith, e, f)
 
 pub zero_small : (n : ℕ) → n ≡ 0 → n ≤ 4
 zero_small n e = omega (arith, e)
@@ -186,6 +192,7 @@ truth_by names words (Unread refusal) was now due sound check e text = absurd cc
 truth_by names words (Refused refusal told) was now due sound check e text = absurd cc
 truth_by names words (ShownLog shown) was now due sound check e text = absurd (show_is_no_check words due.log check due.asked)
 truth_by names words (Processed o) was now due sound check e text = absurd (process_is_no_check words due.model due.scaffold due.out check due.asked)
+truth_by names words (Proved p) was now due sound check e text = absurd (check_proves_not words check (due.model, due.most, due.asked))
 
 -- at status 0 the claim that was written is true
 pub truth_said : (names : Option Files) (words : List (List ℕ)) (reply : Reply) (was middle now : Sight) (r : ℕ) (text : List ℕ) (before later : ℕ) →
@@ -196,22 +203,23 @@ truth_said names words reply was middle now r text before later same due sound t
     (moved (file_of reply) (text_of reply) was middle now same (subst (λ (t : List ℕ). Writes (file_of reply) t middle now) tx h.1)).told
 truth_said names words reply was middle now r text before later same due sound tx (inr h) e check = absurd (not_six r (zero_small r e) h.0)
 
-unsolved_by : (names : Option Files) (words : List (List ℕ)) (reply : Reply) → Replies names words reply → IsSolve words → status_of reply ≡ 0 → ⊥
-unsolved_by names words NoCommand due solve e = absurd cc
-unsolved_by names words (ModelRefused refusal) due solve e = absurd cc
+unsolved_by : (names : Option Files) (words : List (List ℕ)) (reply : Reply) → Replies names words reply → IsSolve words → (status_of reply ≡ 0) ⊎ (status_of reply ≡ 4) → ⊥
+unsolved_by names words NoCommand due solve (inl e) = absurd cc
+unsolved_by names words NoCommand due solve (inr e) = absurd cc
+unsolved_by names words (ModelRefused refusal) due solve (inl e) = absurd cc
+unsolved_by names words (ModelRefused refusal) due solve (inr e) = absurd cc
 unsolved_by names words (Accepted claim) due solve e = solve_is_no_check words due.model due.log solve due.asked
-unsolved_by names words (Unread refusal) due solve e = absurd cc
-unsolved_by names words (Refused refusal told) due solve e = absurd cc
+unsolved_by names words (Unread refusal) due solve e = solve_is_no_check words due.model due.log solve due.asked
+unsolved_by names words (Refused refusal told) due solve e = solve_is_no_check words due.model due.log solve due.asked
 unsolved_by names words (ShownLog shown) due solve e = solve_is_no_show words due.log solve due.asked
 unsolved_by names words (Processed o) due solve e = solve_is_no_process words due.model due.scaffold due.out solve due.asked
+unsolved_by names words (Proved p) due solve e = solve_proves_not words solve (due.model, due.most, due.asked)
 
 -- no reply is said of a model that was solved
 pub unsolved : (names : Option Files) (words : List (List ℕ)) (reply : Reply) (was now : Sight) (r : ℕ) (text : List ℕ) (before later : ℕ) →
     Replies names words reply → WasHanded r (status_of reply) (file_of reply) text was now before later → IsSolved words r → ⊥
-unsolved names words reply was now r text before later due (inl h) (inl e) = beyond (status_of reply) 4 (status_small reply) (sym h.0 ∙ e) (lit≤ tt)
-unsolved names words reply was now r text before later due (inl h) (inr e) = unsolved_by names words reply due e.1 (sym h.0 ∙ e.0)
-unsolved names words reply was now r text before later due (inr h) (inl e) = not_four r (inr h.0) e
-unsolved names words reply was now r text before later due (inr h) (inr e) = six_not_zero r h.0 e.0
+unsolved names words reply was now r text before later due (inl h) (solve, e) = unsolved_by names words reply due solve (subst (λ (n : ℕ). (n ≡ 0) ⊎ (n ≡ 4)) h.0 e)
+unsolved names words reply was now r text before later due (inr h) (solve, e) = six_not_solved r h.0 e
 
 -- the inputs that words which are no command do not ask for are as they were
 unread_by : (reply : Reply) (was now : Sight) → status_of reply ≡ 2 → LeavesUnread reply was now → (now.model ≡ was.model) × (now.log ≡ was.log)
@@ -232,6 +240,16 @@ unread_by (Processed o) was now e h = absurd (not_processed o e)
     not_processed (outcome.Unread refusal) e = cc
     not_processed (outcome.Refused refusal text) e = cc
     not_processed (outcome.NotFollowing failing) e = cc
+unread_by (Proved p) was now e h = absurd (not_proved p e)
+  where
+    not_proved : (p : Proving) → proving_status p ≡ 2 → ⊥
+    not_proved (proving.Solved text) e = cc
+    not_proved (proving.Unknown text) e = cc
+    not_proved (proving.Accepted text claim) e = cc
+    not_proved (proving.Unread refusal) e = cc
+    not_proved (proving.ScaffoldRefused refusal text) e = cc
+    not_proved (proving.NotFollowing number id) e = cc
+    not_proved (proving.LogRefused refusal text) e = cc
 
 six_not_two : (r : ℕ) → r ≡ 6 → r ≡ 2 → ⊥
 six_not_two r e f = omega (arith, e, f)
@@ -263,6 +281,16 @@ refused_by (Processed o) was now e h = absurd (not_processed o e)
     not_processed (outcome.Unread refusal) e = cc
     not_processed (outcome.Refused refusal text) e = cc
     not_processed (outcome.NotFollowing failing) e = cc
+refused_by (Proved p) was now e h = absurd (not_proved p e)
+  where
+    not_proved : (p : Proving) → proving_status p ≡ 3 → ⊥
+    not_proved (proving.Solved text) e = cc
+    not_proved (proving.Unknown text) e = cc
+    not_proved (proving.Accepted text claim) e = cc
+    not_proved (proving.Unread refusal) e = cc
+    not_proved (proving.ScaffoldRefused refusal text) e = cc
+    not_proved (proving.NotFollowing number id) e = cc
+    not_proved (proving.LogRefused refusal text) e = cc
 
 six_not_three : (r : ℕ) → r ≡ 6 → r ≡ 3 → ⊥
 six_not_three r e f = omega (arith, e, f)
@@ -279,11 +307,11 @@ pub rose_said : (reply : Reply) (middle now : Sight) (r : ℕ) (file : Option (L
 rose_said reply middle now r file text before between later same (inl h) e = absurd (beyond (status_of reply) 6 (status_small reply) (sym h.0 ∙ e) (lit≤ tt))
 rose_said reply middle now r file text before between later same (inr h) e = subst (λ (n : ℕ). Rose n later) same h.2
 
-pub not_five : (r : ℕ) → (r ≤ 3) ⊎ (r ≡ 6) → r ≡ 5 → ⊥
+pub not_five : (r : ℕ) → (r ≤ 4) ⊎ (r ≡ 6) → r ≡ 5 → ⊥
 not_five r (inl e) f = omega (arith, e, f)
 not_five r (inr e) f = omega (arith, e, f)
 
-pub said_known : (r : ℕ) → (r ≤ 3) ⊎ (r ≡ 6) → r ≤ 7
+pub said_known : (r : ℕ) → (r ≤ 4) ⊎ (r ≡ 6) → r ≤ 7
 said_known r (inl e) = omega (arith, e)
 said_known r (inr e) = omega (arith, e)
 
@@ -298,6 +326,7 @@ still_at_end (Check model log) middle first answer h = h
 still_at_end (Show log) middle first answer h = h
 still_at_end (Process model scaffold out) middle first answer h = h
 still_at_end (Solve model out most) middle first answer h = h
+still_at_end (Prove model most) middle first answer h = h
 
 -- what was read to its end before the outputs is so behind them
 pub still_read : (words : List (List ℕ)) (middle now : Sight) → now ≡ with_output Out.Answer now.answer (with_output Out.First now.first middle) → ReadsToEnd words middle → ReadsToEnd words now
@@ -360,6 +389,7 @@ no_file names words (Unread refusal) due other = refl
 no_file names words (Refused refusal told) due other = refl
 no_file names words (ShownLog shown) due other = refl
 no_file names words (Processed o) due other = absurd (other (due.model, due.scaffold, due.out, due.asked))
+no_file names words (Proved p) due other = refl
 
 -- other words leave the first output as it was
 pub unfiled_words : (names : Option Files) (words : List (List ℕ)) (reply : Reply) (text : List ℕ) (r : ℕ) (was middle now : Sight) (before later : ℕ) →
@@ -374,6 +404,7 @@ not_done (Accepted claim) h = refl
 not_done (Unread refusal) h = refl
 not_done (Refused refusal told) h = refl
 not_done (ShownLog shown) h = refl
+not_done (Proved p) h = refl
 not_done (Processed o) h = not_processed o h
   where
     not_processed : (o : Outcome) → (outcome_status o ≡ 0 → ⊥) → outcome_file o ≡ None

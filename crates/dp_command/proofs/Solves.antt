@@ -1,7 +1,8 @@
 -- What a search leaves of a desk, behind the reading of its model.
-use Rattle.std.specs.Prelude.{◌≡◌, ◌≢◌, ◌⊎◌, ℕ, ◌≤◌, Option, List, string_bytes}
+use Rattle.std.specs.Prelude.{◌≡◌, ◌≢◌, ◌⊎◌, ℕ, ◌<◌, ◌≤◌, Option, List, string_bytes}
 use Rattle.std.proofs.Common.{sym, ◌∙◌, ap, subst, inl, inr, arith}
 use Rattle.dp_desk.specs.Channel.{Channel, Files, Grows, GrowsByPart, IsAtEnd}
+use Rattle.dp_desk.specs.Causes.{Rose}
 use Rattle.dp_desk.specs.Sight.{Sight, with_output}
 use Rattle.dp_desk.specs.declared.desk.Out.TheVariants as Out
 use Rattle.dp_parts.specs.Problems.{Csp}
@@ -10,11 +11,11 @@ use Rattle.dp_solver.specs.declared.outcome.Outcome.TheVariants.{Solution, Unsat
 use Rattle.fz_model.specs.Models.{Plan}
 use Rattle.fz_solve.specs.Printed.{outcome_status, outcome_text}
 use Rattle.fz_solve.specs.Solved.{FilesFront, Solved, SolvedPart, SolvesFront}
-use Rattle.dp_command.proofs.Requests.{solve_is_no_show}
+use Rattle.dp_command.proofs.Requests.{solve_is_no_check, solve_is_no_process, solve_is_no_show, solve_proves_not}
 use Rattle.dp_command.specs.Due.{AreAtEnd, ChangesInputs, ReadsToEnd}
-use Rattle.dp_command.specs.Solving.{IsSolved, SolvesModel, SolvesModelPart}
+use Rattle.dp_command.specs.Solving.{IsReplied, IsSolved, SolvesModel, SolvesModelPart}
 use Rattle.dp_command.specs.Tasks.{IsSearched, Searches}
-use Rattle.dp_command.specs.Words.{Request, Check, Show, Process, Solve, Spells, IsSolve}
+use Rattle.dp_command.specs.Words.{Request, Check, Show, Process, Solve, Prove, Spells, IsCheck, IsProcess, IsSolve}
 use Rattle.dp_command.specs.declared.task.Search.{Search}
 
 -- ---- the status
@@ -62,8 +63,8 @@ unopened words r (inr (inl e)) solve a b other = b e
 unopened words r (inr (inr e)) solve a b other = (other solve).1 e
 
 solved_small : (words : List (List ℕ)) (r : ℕ) → IsSolved words r → 6 ≤ r → ⊥
-solved_small words r (inl e) f = omega (arith, e, f)
-solved_small words r (inr (e, solve)) f = omega (arith, e, f)
+solved_small words r (solve, inl e) f = omega (arith, e, f)
+solved_small words r (solve, inr e) f = omega (arith, e, f)
 
 -- ---- the words
 
@@ -76,6 +77,7 @@ model_ended (Check model log) words now e h solve = h.0
 model_ended (Show log) words now e h solve = absurd (solve_is_no_show words log solve e)
 model_ended (Process model scaffold out) words now e h solve = h.0
 model_ended (Solve model out most) words now e h solve = h
+model_ended (Prove model most) words now e h solve = h
 
 -- ---- behind the reading
 
@@ -166,3 +168,13 @@ pub left_search : (names : Option Files) (words : List (List ℕ)) (search : Sea
 left_search names words search was middle now r before later same s (inl h) e = absurd (whole r (outcome_ends r h.0.outcome h.0.stands) (seven r e))
 left_search names words search was middle now r before later same s (inr (inl h)) e = absurd (six_or_seven r h.0 e)
 left_search names words search was middle now r before later same s (inr (inr h)) e = solves_part names words search was middle now same s h.1
+
+kept_count : (before between later : ℕ) → between ≡ before → later ≡ between → before < later → ⊥
+kept_count before between later e f g = omega (arith, e, f, g)
+
+-- and what is counted is told, or is want of memory
+pub seen_search : (search : Search) (middle now : Sight) (words : List (List ℕ)) (r before between later : ℕ) → between ≡ before → IsSolve words → IsSearched search r middle now between later →
+    before < later → (r ≡ 6) ⊎ ((r ≡ 7) × IsSolve words)
+seen_search search middle now words r before between later same solve (inl h) more = absurd (kept_count before between later same h.1 more)
+seen_search search middle now words r before between later same solve (inr (inl h)) more = inl h.0
+seen_search search middle now words r before between later same solve (inr (inr h)) more = inr (h.0, solve)

@@ -4,7 +4,7 @@ use Rattle.dp_desk.specs.Channel.{Channel, Files, Grows, GrowsByPart, IsAtEnd, S
 use Rattle.dp_desk.specs.Sight.{Sight}
 use Rattle.dp_command.specs.Replies.{Replies}
 use Rattle.dp_command.specs.Texts.{file_of, text_of, status_of, read_fault}
-use Rattle.dp_command.specs.Words.{Request, Check, Show, Process, Solve, Spells}
+use Rattle.dp_command.specs.Words.{Request, Check, Show, Process, Solve, Prove, Spells}
 use Rattle.dp_command.specs.declared.reply.Reply.{Reply}
 use Rattle.dp_command.specs.declared.reply.Reply.TheVariants.{NoCommand, ModelRefused}
 
@@ -79,12 +79,13 @@ LeavesUnread NoCommand was now = (now.model ≡ was.model) × (now.log ≡ was.l
 LeavesUnread (ModelRefused refusal) was now = now.log ≡ was.log
 LeavesUnread reply was now = Unit {0}
 
--- the input that is not asked for is as it was: a log is shown without a model, and a model solved without a log
+-- the input that is not asked for is as it was: a log is shown without a model, and a model solved and proved without a log
 abbrev pub LeavesUnasked : Request → Sight → Sight → Type 0
 LeavesUnasked (Check model log) was now = Unit {0}
 LeavesUnasked (Show log) was now = now.model ≡ was.model
 LeavesUnasked (Process model scaffold out) was now = Unit {0}
 LeavesUnasked (Solve model out most) was now = now.log ≡ was.log
+LeavesUnasked (Prove model most) was now = now.log ≡ was.log
 
 -- each input that is asked for was read to its end
 abbrev pub AreAtEnd : Request → Sight → Type 0
@@ -92,6 +93,7 @@ AreAtEnd (Check model log) now = IsAtEnd now.model × IsAtEnd now.log
 AreAtEnd (Show log) now = IsAtEnd now.log
 AreAtEnd (Process model scaffold out) now = IsAtEnd now.model × IsAtEnd now.log
 AreAtEnd (Solve model out most) now = IsAtEnd now.model
+AreAtEnd (Prove model most) now = IsAtEnd now.model
 
 -- the words are a command, and each input that it asks for was read to its end
 pub record ReadsToEnd (words : List (List ℕ)) (now : Sight) : Type 0 where

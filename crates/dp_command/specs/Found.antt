@@ -10,7 +10,7 @@ use Rattle.fz_items.specs.Answers.{model_text}
 use Rattle.fz_model.specs.Models.{Plan}
 use Rattle.fz_sat.specs.Satisfies.{Satisfies}
 use Rattle.dp_command.specs.Inputs.{IsRead}
-use Rattle.dp_command.specs.Proved.{IsTrueOf}
+use Rattle.dp_command.specs.Truths.{IsTrueOf}
 use Rattle.dp_command.specs.Named.{claim_of}
 use Rattle.dp_command.specs.Replies.{most_of_model}
 use Rattle.dp_command.specs.declared.finding.Found.{Found}

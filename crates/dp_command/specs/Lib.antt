@@ -6,7 +6,10 @@ pub mod Outcomes
 pub mod Replies
 pub mod Texts
 pub mod Words
+pub mod Truths
+pub mod Proving
 pub mod Proved
+pub mod Proven
 pub mod Found
 pub mod Solving
 pub mod Tasks

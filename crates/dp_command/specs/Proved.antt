@@ -1,13 +1,7 @@
--- What an accepted log proves of the model, in words that know no parts and no steps; and what a processed log is.
-use Rattle.std.specs.Prelude.{◌≡◌, ℕ, true, Option, Some, List, ℤ}
+-- What an accepted log proves of the model, and what a processed log is.
+use Rattle.std.specs.Prelude.{◌≡◌, ℕ, Option, List}
 use Rattle.dp_desk.specs.Channel.{Channel, Files, Grows}
-use Rattle.dp_domain.specs.Atoms.{compares}
-use Rattle.dp_domain.specs.declared.atom.Op.{Op}
-use Rattle.dp_domain.specs.declared.atom.Op.TheVariants.{Ge, Le}
 use Rattle.fz_model.specs.Models.{Plan}
-use Rattle.fz_model.specs.declared.model.ModelGoal.{ModelGoal}
-use Rattle.fz_model.specs.declared.model.ModelGoal.TheVariants.{Satisfy, Minimize, Maximize}
-use Rattle.fz_sat.specs.Satisfies.{Satisfies, objective_of}
 use Rattle.dp_checker.specs.Kept.{IsRight}
 use Rattle.dp_judge.specs.Logs.{judged_log}
 use Rattle.dp_judge.specs.declared.answer.LogAnswer.TheVariants.{Accepted as AcceptedLog}
@@ -24,31 +18,11 @@ use Rattle.dp_command.specs.Due.{Holds}
 use Rattle.dp_command.specs.Inputs.{IsRead}
 use Rattle.dp_command.specs.Replies.{IsGiven, most_of_log}
 use Rattle.dp_command.specs.Texts.{text_of}
+use Rattle.dp_command.specs.Truths.{IsTrueOf}
 use Rattle.dp_command.specs.Words.{Request, Check, Process, Spells}
 use Rattle.dp_command.specs.declared.reply.Claim.{Claim}
-use Rattle.dp_command.specs.declared.reply.Claim.TheVariants.{Unsat, Bound}
 use Rattle.dp_command.specs.declared.reply.Reply.{Reply}
 use Rattle.dp_command.specs.declared.reply.Reply.TheVariants.{Accepted}
-
--- no assignment satisfies the model
-abbrev pub IsUnsatisfiable : Plan → Type 0
-IsUnsatisfiable m = (s : ℕ → ℤ) → Satisfies m s → ⊥
-
--- a bound from below is wanted where the least is, and one from above where the greatest is
-abbrev pub IsSideOf : ModelGoal → Op → Type 0
-IsSideOf Satisfy op = ⊥
-IsSideOf (Minimize place) op = op ≡ Ge
-IsSideOf (Maximize place) op = op ≡ Le
-
--- no assignment that satisfies the model beats the bound
-pub record IsBest (m : Plan) (op : Op) (value : ℤ) : Type 0 where
-  pub side : IsSideOf m.goal op
-  pub none : (s : ℕ → ℤ) (v : ℤ) → Satisfies m s → objective_of m s ≡ Some v → compares op v value ≡ true
-
--- the claim is true of the model
-abbrev pub IsTrueOf : Plan → Claim → Type 0
-IsTrueOf m Unsat = IsUnsatisfiable m
-IsTrueOf m (Bound name op value) = IsBest m op value
 
 -- the words ask for a check of a model, and the claim is true of the model that its text spells
 pub record IsProved (names : Option Files) (words : List (List ℕ)) (claim : Claim) : Type 0 where

@@ -15,10 +15,12 @@ use Rattle.fz_model.specs.Models.{Plan}
 use Rattle.dp_command.specs.Inputs.{IsRead}
 use Rattle.dp_command.specs.Named.{claim_of}
 use Rattle.dp_command.specs.Outcomes.{IsOutcome}
-use Rattle.dp_command.specs.Words.{Request, Check, Show, Process, Solve, Spells, AreNoCommand}
+use Rattle.dp_command.specs.Proving.{IsProving}
+use Rattle.dp_command.specs.Words.{Request, Check, Show, Process, Solve, Prove, Spells, AreNoCommand}
 use Rattle.dp_command.specs.declared.outcome.Outcome.{Outcome}
+use Rattle.dp_command.specs.declared.proving.Proving.{Proving}
 use Rattle.dp_command.specs.declared.reply.Reply.{Reply}
-use Rattle.dp_command.specs.declared.reply.Reply.TheVariants.{NoCommand, ModelRefused, Accepted, Unread, Refused, Shown as ShownLog, Processed}
+use Rattle.dp_command.specs.declared.reply.Reply.TheVariants.{NoCommand, ModelRefused, Accepted, Unread, Refused, Shown as ShownLog, Processed, Proved}
 
 -- so many bytes are read of a model at most: one more than its text may have
 abbrev pub most_of_model : ℕ
@@ -36,6 +38,7 @@ model_of (Check model log) = Some model
 model_of (Show log) = None
 model_of (Process model scaffold out) = Some model
 model_of (Solve model out most) = Some model
+model_of (Prove model most) = Some model
 
 -- the words ask for a model, and what is read of it is refused so
 pub record RefusesModel (names : Option Files) (words : List (List ℕ)) (refusal : ModelRefusal) : Type 0 where
@@ -105,6 +108,17 @@ pub record ProcessesScaffold (names : Option Files) (words : List (List ℕ)) (o
   pub given : IsGiven names model m
   pub processed : IsProcessed names scaffold out (problem_of m) o
 
+-- ---- a proof
+
+-- the words ask to prove a model, which is read, and that ends so
+pub record ProvesModel (names : Option Files) (words : List (List ℕ)) (proving : Proving) : Type 0 where
+  pub model : List ℕ
+  pub most : ℕ
+  pub asked : Spells (Prove model most) words
+  pub m : Plan
+  pub given : IsGiven names model m
+  pub proves : IsProving m (problem_of m) most proving
+
 -- ---- all
 
 -- the reply that belongs to the words and to what is read of the inputs that they name
@@ -113,6 +127,7 @@ Replies names words NoCommand = AreNoCommand words
 Replies names words (ModelRefused refusal) = RefusesModel names words refusal
 Replies names words (ShownLog shown) = ShowsLog names words shown
 Replies names words (Processed o) = ProcessesScaffold names words o
+Replies names words (Proved proving) = ProvesModel names words proving
 Replies names words reply = JudgesLog names words reply
 
 -- the reply belongs to each spelling of what is asked for

@@ -10,13 +10,13 @@ use Rattle.dp_command.specs.Words.{Solve, Spells, IsSolve}
 
 -- ---- statuses
 
--- the status of a reply: up to 3, but 0 of a solve is none
+-- the status of a reply: up to 4, but 0 and 4 of a solve are none
 abbrev pub IsReplied : List (List ℕ) → ℕ → Type 0
-IsReplied words status = (status ≤ 3) × (IsSolve words → status ≢ 0)
+IsReplied words status = (status ≤ 4) × (IsSolve words → (status ≢ 0) × (status ≢ 4))
 
--- the status of a model that was solved: 4, or 0 of a solve
+-- the status of a model that was solved
 abbrev pub IsSolved : List (List ℕ) → ℕ → Type 0
-IsSolved words status = (status ≡ 4) ⊎ ((status ≡ 0) × IsSolve words)
+IsSolved words status = IsSolve words × ((status ≡ 0) ⊎ (status ≡ 4))
 
 -- ---- a model
 

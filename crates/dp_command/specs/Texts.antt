@@ -20,10 +20,12 @@ use Rattle.dp_command.specs.declared.outcome.Done.{Done}
 use Rattle.dp_command.specs.declared.outcome.Failing.{Failing}
 use Rattle.dp_command.specs.declared.outcome.Outcome.{Outcome}
 use Rattle.dp_command.specs.declared.outcome.Outcome.TheVariants as outcome
+use Rattle.dp_command.specs.declared.proving.Proving.{Proving}
+use Rattle.dp_command.specs.declared.proving.Proving.TheVariants as proving
 use Rattle.dp_command.specs.declared.reply.Claim.{Claim}
 use Rattle.dp_command.specs.declared.reply.Claim.TheVariants.{Unsat, Bound}
 use Rattle.dp_command.specs.declared.reply.Reply.{Reply}
-use Rattle.dp_command.specs.declared.reply.Reply.TheVariants.{NoCommand, ModelRefused, Accepted, Unread, Refused, Shown as ShownLog, Processed}
+use Rattle.dp_command.specs.declared.reply.Reply.TheVariants.{NoCommand, ModelRefused, Accepted, Unread, Refused, Shown as ShownLog, Processed, Proved}
 
 -- a line of text, with its end
 abbrev pub line : List ℕ → List ℕ
@@ -112,6 +114,10 @@ abbrev pub claim_words : Claim → List ℕ
 claim_words Unsat = codes "UNSAT"
 claim_words (Bound name op value) = atom_text name op value
 
+-- the line that tells an accepted log
+abbrev pub accepted_line : Claim → List ℕ
+accepted_line claim = line (codes "accepted: " ++ claim_words claim)
+
 -- ---- scaffolds
 
 -- the name of a test that refuses a line of a scaffold, with its number where it has one
@@ -164,17 +170,40 @@ outcome_file (outcome.Unread refusal) = None
 outcome_file (outcome.Refused refusal text) = None
 outcome_file (outcome.NotFollowing failing) = None
 
+-- ---- models that are proved
+
+-- the text of what proving a model ends with: that of its outcome, and what is accepted; of a refusal its text alone
+abbrev pub proving_text : Proving → List ℕ
+proving_text (proving.Solved text) = text
+proving_text (proving.Unknown text) = text
+proving_text (proving.Accepted text claim) = text ++ accepted_line claim
+proving_text (proving.Unread refusal) = unread_text refusal
+proving_text (proving.ScaffoldRefused refusal text) = scaffold_refused refusal text
+proving_text (proving.NotFollowing number id) = line (refused_words (not_following id) number)
+proving_text (proving.LogRefused refusal text) = refused_text refusal text
+
+-- its status
+abbrev pub proving_status : Proving → ℕ
+proving_status (proving.Solved text) = 0
+proving_status (proving.Unknown text) = 4
+proving_status (proving.Accepted text claim) = 0
+proving_status (proving.Unread refusal) = 1
+proving_status (proving.ScaffoldRefused refusal text) = 1
+proving_status (proving.NotFollowing number id) = 1
+proving_status (proving.LogRefused refusal text) = 1
+
 -- ---- replies
 
 -- the text of a reply
 abbrev pub text_of : Reply → List ℕ
 text_of NoCommand = line (codes "words not understood")
 text_of (ModelRefused refusal) = model_refusal refusal
-text_of (Accepted claim) = line (codes "accepted: " ++ claim_words claim)
+text_of (Accepted claim) = accepted_line claim
 text_of (Unread refusal) = unread_text refusal
 text_of (Refused refusal text) = refused_text refusal text
 text_of (ShownLog shown) = shown_text shown
 text_of (Processed o) = outcome_text o
+text_of (Proved proved) = proving_text proved
 
 -- the status of a log that is shown: whether all of it is
 abbrev pub shown_status : Option Refusal → ℕ
@@ -190,6 +219,7 @@ status_of (Unread refusal) = 1
 status_of (Refused refusal text) = 1
 status_of (ShownLog shown) = shown_status shown.refusal
 status_of (Processed o) = outcome_status o
+status_of (Proved proved) = proving_status proved
 
 -- what a reply writes to a file, if anything
 abbrev pub file_of : Reply → Option (List ℕ)
@@ -200,6 +230,7 @@ file_of (Unread refusal) = None
 file_of (Refused refusal text) = None
 file_of (ShownLog shown) = None
 file_of (Processed o) = outcome_file o
+file_of (Proved proved) = None
 
 -- the text where an input could not be read
 abbrev pub read_fault : List ℕ

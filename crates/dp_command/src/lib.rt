@@ -7,6 +7,8 @@ mod naming;
 mod outcome;
 mod process;
 mod program;
+mod prove;
+mod proving;
 mod reading;
 mod reply;
 mod saying;

@@ -114,8 +114,12 @@ fn push_number(text: &mut Vec<u8>, number: u64) -> Result<(), Memory>
     Ok(())
 }
 
-// The text where a test refuses a line, or where there is no conclusion.
-fn refused(alloc: Global, refusal: ScaffoldRefusal, told: &Option<Text>) -> Result<Vec<u8>, Memory>
+/// The text where a test refuses a line, or where there is no conclusion.
+pub(crate) fn refused(
+    alloc: Global,
+    refusal: ScaffoldRefusal,
+    told: &Option<Text>,
+) -> Result<Vec<u8>, Memory>
     ensures { IfOk result (λ text. text.items ≡ texts.scaffold_refused refusal told.now) }
 {
     match told {
@@ -163,7 +167,8 @@ fn failing_text(alloc: Global, failing: &Failing) -> Result<Vec<u8>, Memory>
     Ok(text)
 }
 
-fn failing_line(alloc: Global, id: u64, line: u64) -> Result<Vec<u8>, Memory>
+/// The line that tells by its number which nogood does not follow.
+pub(crate) fn failing_line(alloc: Global, id: u64, line: u64) -> Result<Vec<u8>, Memory>
     ensures { IfOk result (λ text. text.items ≡ texts.line (texts.refused_words (texts.not_following id) line)) }
 {
     let name = format!(in alloc; "NotFollowing {id}")?;

@@ -4,16 +4,18 @@ ghost use Rattle.std.specs.Prelude.{◌≡◌, ◌≢◌, ◌⊎◌, ◌<◌, �
 ghost use Rattle.dp_desk.specs.Channel.{Grows};
 ghost use Rattle.dp_desk.specs.Causes.{Rose};
 ghost use Rattle.dp_command.specs.Asked.{asked};
-ghost use Rattle.dp_command.specs.Words.{IsCheck, IsProcess, IsShow, IsSolve};
+ghost use Rattle.dp_command.specs.Words.{IsCheck, IsInRange, IsProcess, IsProve, IsShow, IsSolve};
 ghost use Rattle.dp_command.specs.Inputs.{HasReadCause};
 ghost use Rattle.dp_command.specs.Due.{Said, SaidPart, ChangesInputs, ChangesOutputs, LeavesUnasked, AreAtEnd, ReadsToEnd};
 ghost use Rattle.dp_command.specs.Proved.{FilesProof, SaysTruth};
+ghost use Rattle.dp_command.specs.Proven.{PassesLimit, SaysProof};
 ghost use Rattle.dp_command.specs.Solving.{IsReplied, IsSolved, SolvesModel, SolvesModelPart};
 ghost use Rattle.dp_command.specs.Tasks.{IfGood, IsSoundTask, IsSoundTaskTo, IsTask, IsTaskTo, LeavesUnreadBy};
 ghost use Rattle.dp_command.specs.Texts.{read_fault};
 
 use crate::check::check;
 use crate::process::process;
+use crate::prove::prove;
 use crate::reply::Reply;
 use crate::saying::{hand_over, say};
 use crate::show::show;
@@ -27,12 +29,12 @@ use std::alloc::Global;
 /// Does what the words ask for over a desk, and answers the status that the program ends with.
 ///
 /// The words are judged first, then the model, then the log or the scaffold; a log is shown without a model, and a model
-/// is solved without a log. Status 0 comes where the log is accepted or shown to its end, the scaffold is processed or
-/// the model is solved, 1 where it is refused, 2 where the words are no command, 3 where the model is refused, 4 where
-/// the most nogoods were learned, 5 and 6 where an input and where an output failed, and 7 for want of memory. At each
-/// status but 7 a text is written as the answer. The processed log is opened and written only where nothing but a write
-/// can fail, before the answer; the scaffold of a model is opened where the model is not refused, and is written while it
-/// is solved.
+/// is solved and proved without a log. Status 0 comes where the log is accepted or shown to its end, the scaffold is
+/// processed or the model is solved or proved, 1 where it is refused, 2 where the words are no command, 3 where the model
+/// is refused, 4 where the most nogoods were learned, 5 and 6 where an input and where an output failed, and 7 for want
+/// of memory. At each status but 7 a text is written as the answer. The processed log is opened and written only where
+/// nothing but a write can fail, before the answer; the scaffold of a model that is solved is opened where the model is
+/// not refused, and is written while it is solved; a model is proved without a file.
 pub fn run<D: Desk>(alloc: Global, words: &[&str], desk: &mut D) -> u8
     // The status, the file and the text are those of the reply that belongs to the words and the inputs.
     ensures answered { let texts = map (λ w. w.now) words.now in IsReplied texts result → Said (D.sight desk.old).names texts result (D.sight desk.old) (D.sight desk.new) }
@@ -45,10 +47,16 @@ pub fn run<D: Desk>(alloc: Global, words: &[&str], desk: &mut D) -> u8
 
     // What stands in the file of a processed scaffold is its processed log, and each nogood that its claim rests on follows.
     ensures processed { let texts = map (λ w. w.now) words.now in result ≡ 0 → IsProcess texts → FilesProof (D.sight desk.old).names texts (D.sight desk.new).first }
+    // What is printed of a proved model is true of it; what is accepted there was claimed by a log that a check accepts.
+    ensures proved { let texts = map (λ w. w.now) words.now in IsProve texts → result ≡ 0 ⊎ (result ≡ 4) → SaysProof (D.sight desk.old).names texts result (D.sight desk.old).answer (D.sight desk.new).answer }
+
+    // A proof is refused only where its scaffold or its log passes a limit.
+    ensures limits { let texts = map (λ w. w.now) words.now in IsProve texts → result ≡ 1 → PassesLimit (D.sight desk.old).names texts }
     ensures ended { let texts = map (λ w. w.now) words.now in result ≡ 0 → ReadsToEnd texts (D.sight desk.new) }
     ensures unread_words { result ≡ 2 → (D.sight desk.new).model ≡ (D.sight desk.old).model × ((D.sight desk.new).log ≡ (D.sight desk.old).log) }
     ensures unread_log { result ≡ 3 → (D.sight desk.new).log ≡ (D.sight desk.old).log }
     ensures unread_log_by_solve { let texts = map (λ w. w.now) words.now in IsSolve texts → (D.sight desk.new).log ≡ (D.sight desk.old).log }
+    ensures unread_log_by_prove { let texts = map (λ w. w.now) words.now in IsProve texts → (D.sight desk.new).log ≡ (D.sight desk.old).log }
     ensures unread_model { let texts = map (λ w. w.now) words.now in IsShow texts → (D.sight desk.new).model ≡ (D.sight desk.old).model }
 
     // The file is opened only to process a scaffold, and only where that is done, or to solve a model.
@@ -91,6 +99,7 @@ fn task_of<D: Desk>(alloc: Global, words: &[&str], desk: &mut D) -> Result<Task,
     ensures unread { IfOk result (λ task. LeavesUnreadBy task (D.sight desk.old) (D.sight desk.new)) }
     ensures unread_model { let texts = map (λ w. w.now) words.now in IsShow texts → (D.sight desk.new).model ≡ (D.sight desk.old).model }
     ensures unread_log { let texts = map (λ w. w.now) words.now in IsSolve texts → (D.sight desk.new).log ≡ (D.sight desk.old).log }
+    ensures unread_log_too { let texts = map (λ w. w.now) words.now in IsProve texts → (D.sight desk.new).log ≡ (D.sight desk.old).log }
     ensures rest { ChangesInputs (D.sight desk.old) (D.sight desk.new) }
     ensures cause { HasReadCause (D.faults_in desk.old) (D.faults_in desk.new) result }
     ensures other { D.faults_out desk.new ≡ D.faults_out desk.old }
@@ -103,6 +112,7 @@ fn task_of<D: Desk>(alloc: Global, words: &[&str], desk: &mut D) -> Result<Task,
 
 // Reads and judges what a command asks for, and writes nothing.
 fn obey<D: Desk>(alloc: Global, command: Command<'_>, desk: &mut D) -> Result<Task, Trouble>
+    requires { IsInRange (asked command) }
     ensures due { IfOk result (IsTaskTo (D.sight desk.old).names (asked command.entry)) }
     ensures sound { IfOk result (IsSoundTaskTo (D.sight desk.old).names (asked command.entry)) }
     ensures ended { IfOk result (λ task. IfGood task (AreAtEnd (asked command.entry) (D.sight desk.new))) }
@@ -125,5 +135,8 @@ fn obey<D: Desk>(alloc: Global, command: Command<'_>, desk: &mut D) -> Result<Ta
             out,
             conflicts,
         } => solve(alloc, model, out, conflicts, desk),
+        Command::Prove { model, conflicts } => {
+            Ok(Task::Say(prove(alloc, model, conflicts, desk)?))
+        }
     }
 }

@@ -4,10 +4,10 @@ ghost use Rattle.std.specs.Prelude.{◌≡◌, ◌++◌, ◌∷◌, [], IfOk, On
 ghost use Rattle.std.specs.Fmt.{decimal};
 ghost use Rattle.fz_items.specs.Answers.{place_of};
 ghost use Rattle.dp_command.specs.Texts as texts;
-ghost use Rattle.dp_command.specs.declared.reply.Reply.TheVariants.{Accepted};
 ghost use Rattle.std.specs.Option.{option_map};
 
 use crate::outcome::{Done, Outcome};
+use crate::proving::Proving;
 use dp_base::{Memory, Name, Text};
 use dp_checker::{StepRefusal, Why};
 use dp_domain::Op;
@@ -42,6 +42,8 @@ pub(crate) enum Reply {
     Shown(Shown),
     /// This becomes of the scaffold.
     Processed(Outcome),
+    /// Proving the model ends so.
+    Proved(Proving),
 }
 
 impl Reply {
@@ -56,6 +58,7 @@ impl Reply {
             Reply::Unread(_) | Reply::Refused(..) => 1,
             Reply::Shown(shown) => shown_status(shown),
             Reply::Processed(outcome) => outcome.status(),
+            Reply::Proved(proving) => proving.status(),
         }
     }
 
@@ -71,6 +74,7 @@ impl Reply {
             Reply::Refused(refusal, text) => refused(alloc, *refusal, text),
             Reply::Shown(shown) => shown_text(alloc, shown),
             Reply::Processed(outcome) => outcome.text(alloc),
+            Reply::Proved(proving) => proving.text(alloc),
         }
     }
 
@@ -84,7 +88,8 @@ impl Reply {
             | Reply::Accepted(_)
             | Reply::Unread(_)
             | Reply::Refused(..)
-            | Reply::Shown(_) => None,
+            | Reply::Shown(_)
+            | Reply::Proved(_) => None,
             Reply::Processed(outcome) => outcome.file(),
         }
     }
@@ -153,9 +158,9 @@ fn place_of(refusal: ModelRefusal) -> usize
     }
 }
 
-// The line that tells an accepted log.
-fn accepted(alloc: Global, claim: &Claim) -> Result<Vec<u8>, Memory>
-    ensures { IfOk result (λ text. text.items ≡ texts.text_of (Accepted claim.now)) }
+/// The line that tells an accepted log.
+pub(crate) fn accepted(alloc: Global, claim: &Claim) -> Result<Vec<u8>, Memory>
+    ensures { IfOk result (λ text. text.items ≡ texts.accepted_line claim.now) }
 {
     let mut text = b"accepted: ".to_vec(alloc)?;
     push_claim(&mut text, claim)?;
@@ -204,8 +209,12 @@ pub(crate) fn refused_line(alloc: Global, name: &str, line: u64) -> Result<Vec<u
     Ok(text.into_bytes())
 }
 
-// The text where a test refuses a line, or where there is no conclusion.
-fn refused(alloc: Global, refusal: StepRefusal, told: &Option<Text>) -> Result<Vec<u8>, Memory>
+/// The text where a test refuses a line, or where there is no conclusion.
+pub(crate) fn refused(
+    alloc: Global,
+    refusal: StepRefusal,
+    told: &Option<Text>,
+) -> Result<Vec<u8>, Memory>
     ensures { IfOk result (λ text. text.items ≡ texts.refused_text refusal told.now) }
 {
     match told {

@@ -2,12 +2,12 @@
 
 ghost use Rattle.std.specs.Prelude.{ℕ, map, MatchOption};
 ghost use Rattle.dp_command.specs.Asked.{asked};
-ghost use Rattle.dp_command.specs.Words.{AreNoCommand, AreOptions, IsCount, Spells};
+ghost use Rattle.dp_command.specs.Words.{AreNoCommand, AreNoOther, AreOptions, IsCount, Spells};
 
 #[cfg(test)]
 mod tests;
 
-// The most nogoods that a solve learns, where no option says another number.
+// The most nogoods that a solve or a proof learns, where no option says another number.
 const USUAL_CONFLICTS: u64 = 1_000_000;
 
 // The most that an option may say.
@@ -49,12 +49,32 @@ pub enum Command<'a> {
         /// The most nogoods that are learned.
         conflicts: u64,
     },
+    /// Solves a model, makes what is learned into a log, and judges that, all in memory.
+    Prove {
+        /// The name of the model's text.
+        model: &'a str,
+        /// The most nogoods that are learned.
+        conflicts: u64,
+    },
 }
 
 /// Reads the words of a command line, which stand behind the program's name. None exactly where they are no
 /// command.
 pub fn read_words<'a>(words: &[&'a str]) -> Option<Command<'a>>
     ensures { let texts = map (λ w. w.now) words.now in MatchOption result (AreNoCommand texts) (λ command. Spells (asked command) texts) }
+{
+    match words {
+        ["prove", model, options @ ..] => match conflicts_of(options) {
+            Some(conflicts) => Some(Command::Prove { model, conflicts }),
+            None => None,
+        },
+        _ => read_other(words),
+    }
+}
+
+// Reads the words of each command but a proof. None exactly where they are none.
+fn read_other<'a>(words: &[&'a str]) -> Option<Command<'a>>
+    ensures { let texts = map (λ w. w.now) words.now in MatchOption result (AreNoOther texts) (λ command. Spells (asked command) texts) }
 {
     match words {
         ["check", model, log] => Some(Command::Check { model, log }),
@@ -76,7 +96,7 @@ pub fn read_words<'a>(words: &[&'a str]) -> Option<Command<'a>>
     }
 }
 
-// The most nogoods that the options of a solve allow. None exactly where they are no options of it.
+// The most nogoods that the options of a solve or a proof allow. None exactly where they are no options of it.
 fn conflicts_of(options: &[&str]) -> Option<u64>
     ensures { let texts = map (λ w. w.now) options.now in MatchOption result ((most : ℕ) → AreOptions texts most → ⊥) (AreOptions texts) }
 {

@@ -53,6 +53,19 @@ fn a_number_of_nogoods_is_an_option(rt: HostRuntime) -> Result<(), Fail> {
         conflicts: 1_000_000,
     };
     assert_eq!(rt; read_words(&["solve", "m", "o"]), Some(solve));
+    let prove = Command::Prove {
+        model: "--conflicts",
+        conflicts: 1_000_000,
+    };
+    assert_eq!(rt; read_words(&["prove", "--conflicts"]), Some(prove));
+    let prove = Command::Prove {
+        model: "process",
+        conflicts: 12,
+    };
+    assert_eq!(rt;
+        read_words(&["prove", "process", "--conflicts", "12"]),
+        Some(prove)
+    );
     for digits in [
         "",
         "0",
@@ -74,6 +87,7 @@ fn a_number_of_nogoods_is_an_option(rt: HostRuntime) -> Result<(), Fail> {
             read_words(&["solve", "m", "o", "--conflicts", digits]),
             None
         );
+        assert_eq!(rt; read_words(&["prove", "m", "--conflicts", digits]), None);
     }
     Ok(())
 }
@@ -96,6 +110,14 @@ fn words_are_judged_first(rt: HostRuntime) -> Result<(), Fail> {
         &["solve", "m", "o", "--conflicts", "1", "x"],
         &["solve", "m", "o", "--conflicts", "1", "--conflicts", "2"],
         &["solve", "--conflicts", "1", "m", "o"],
+        &["prove"],
+        &["prove", "m", "o"],
+        &["prove", "m", "--conflicts"],
+        &["prove", "m", "--conflicts", "0"],
+        &["prove", "m", "o", "--conflicts", "1"],
+        &["prove", "m", "--conflicts", "1", "x"],
+        &["prove", "--conflicts", "1", "m"],
+        &["Prove", "m"],
         &["Check", "m", "l"],
         &["show"],
         &["show", "l", "x"],

@@ -2,8 +2,9 @@
 use Rattle.std.specs.Prelude.{ℕ}
 use Rattle.std.proofs.Common.{◌∙◌, inl, inr, refl, subst, sym}
 use Rattle.dp_desk.specs.Causes.{Rose}
-use Rattle.dp_command.proofs.Says.{ended_said, filed_said, front_fault, front_said, handed_small, not_five, not_seven, refused_said, rest_said, rose_said, said_known, said_of, three_small, truth_said, unfiled, unfiled_words, unread_said, unsolved, zero_small}
-use Rattle.dp_command.proofs.Solves.{front_search, left_search, search_ends, search_not_five, searched_words, solved_search, unopened}
+use Rattle.dp_command.proofs.Proves.{good_small, limit_said, one_small, says_said}
+use Rattle.dp_command.proofs.Says.{ended_said, filed_said, front_fault, front_said, handed_small, not_five, not_seven, refused_said, rest_said, rose_said, said_known, said_of, truth_said, unfiled, unfiled_words, unread_said, unsolved, zero_small}
+use Rattle.dp_command.proofs.Solves.{front_search, left_search, search_ends, search_not_five, searched_words, seen_search, solved_search, unopened}
 use Rattle.dp_command.proofs.Tasks.{fault_rose, reply_due, reply_good, reply_sound, reply_unread, search_due, search_good}
 use Rattle.dp_command.specs.Due.{ReadsToEnd}
 use Rattle.dp_command.specs.Texts.{file_of}
@@ -15,7 +16,7 @@ pub returns-in-Ok-text-clause-answered : goal.returns-in-Ok-text-clause-answered
 returns-in-Ok-text-clause-answered g c =
     λ replied.
     said_of (g.D.Desk.sight c.args.desk.now).names _ c.in-Say.reply (g.D.Desk.sight c.args.desk.now) (g.D.Desk.sight c.task_of.new.desk) (g.D.Desk.sight c.hand_over.new.desk) c.hand_over.result c.as_slice.result.now (g.D.Desk.faults_out c.task_of.new.desk) (g.D.Desk.faults_out c.hand_over.new.desk)
-    c.task_of.ensures.rest (reply_due (g.D.Desk.sight c.args.desk.now).names _ c.in-Ok.task c.in-Say.reply c.in-Say.is c.in-Ok.ensures.due) (c.as_slice.ensures.value ∙ c.in-Ok-text.ensures) c.hand_over.ensures.said (three_small c.hand_over.result replied.0)
+    c.task_of.ensures.rest (reply_due (g.D.Desk.sight c.args.desk.now).names _ c.in-Ok.task c.in-Say.reply c.in-Say.is c.in-Ok.ensures.due) (c.as_slice.ensures.value ∙ c.in-Ok-text.ensures) c.hand_over.ensures.said replied.0
 
 pub returns-in-Ok-text-clause-solved : goal.returns-in-Ok-text-clause-solved
 returns-in-Ok-text-clause-solved g c =
@@ -33,6 +34,20 @@ returns-in-Ok-text-clause-processed g c =
     filed_said (g.D.Desk.sight c.args.desk.now).names _ (g.D.Desk.sight c.args.desk.now) (g.D.Desk.sight c.hand_over.new.desk) c.hand_over.result
     (said_of (g.D.Desk.sight c.args.desk.now).names _ c.in-Say.reply (g.D.Desk.sight c.args.desk.now) (g.D.Desk.sight c.task_of.new.desk) (g.D.Desk.sight c.hand_over.new.desk) c.hand_over.result c.as_slice.result.now (g.D.Desk.faults_out c.task_of.new.desk) (g.D.Desk.faults_out c.hand_over.new.desk)
     c.task_of.ensures.rest (reply_due (g.D.Desk.sight c.args.desk.now).names _ c.in-Ok.task c.in-Say.reply c.in-Say.is c.in-Ok.ensures.due) (c.as_slice.ensures.value ∙ c.in-Ok-text.ensures) c.hand_over.ensures.said (zero_small c.hand_over.result e)) process e
+
+pub returns-in-Ok-text-clause-proved : goal.returns-in-Ok-text-clause-proved
+returns-in-Ok-text-clause-proved g c =
+    λ prove good.
+    says_said (g.D.Desk.sight c.args.desk.now).names _ c.hand_over.result (g.D.Desk.sight c.args.desk.now) (g.D.Desk.sight c.hand_over.new.desk)
+    (said_of (g.D.Desk.sight c.args.desk.now).names _ c.in-Say.reply (g.D.Desk.sight c.args.desk.now) (g.D.Desk.sight c.task_of.new.desk) (g.D.Desk.sight c.hand_over.new.desk) c.hand_over.result c.as_slice.result.now (g.D.Desk.faults_out c.task_of.new.desk) (g.D.Desk.faults_out c.hand_over.new.desk)
+    c.task_of.ensures.rest (reply_due (g.D.Desk.sight c.args.desk.now).names _ c.in-Ok.task c.in-Say.reply c.in-Say.is c.in-Ok.ensures.due) (c.as_slice.ensures.value ∙ c.in-Ok-text.ensures) c.hand_over.ensures.said (good_small c.hand_over.result good)) prove good
+
+pub returns-in-Ok-text-clause-limits : goal.returns-in-Ok-text-clause-limits
+returns-in-Ok-text-clause-limits g c =
+    λ prove e.
+    limit_said (g.D.Desk.sight c.args.desk.now).names _ c.hand_over.result (g.D.Desk.sight c.args.desk.now) (g.D.Desk.sight c.hand_over.new.desk)
+    (said_of (g.D.Desk.sight c.args.desk.now).names _ c.in-Say.reply (g.D.Desk.sight c.args.desk.now) (g.D.Desk.sight c.task_of.new.desk) (g.D.Desk.sight c.hand_over.new.desk) c.hand_over.result c.as_slice.result.now (g.D.Desk.faults_out c.task_of.new.desk) (g.D.Desk.faults_out c.hand_over.new.desk)
+    c.task_of.ensures.rest (reply_due (g.D.Desk.sight c.args.desk.now).names _ c.in-Ok.task c.in-Say.reply c.in-Say.is c.in-Ok.ensures.due) (c.as_slice.ensures.value ∙ c.in-Ok-text.ensures) c.hand_over.ensures.said (one_small c.hand_over.result e)) prove e
 
 pub returns-in-Ok-text-clause-ended : goal.returns-in-Ok-text-clause-ended
 returns-in-Ok-text-clause-ended g c =
@@ -109,6 +124,11 @@ returns-in-Ok-clause-front g c =
 pub returns-in-Ok-clause-left : goal.returns-in-Ok-clause-left
 returns-in-Ok-clause-left g c =
     λ e solve. inr (left_search (g.D.Desk.sight c.args.desk.now).names _ c.in-Solve.found (g.D.Desk.sight c.args.desk.now) (g.D.Desk.sight c.task_of.new.desk) (g.D.Desk.sight c.search.new.desk) c.search.result (g.D.Desk.faults_out c.task_of.new.desk) (g.D.Desk.faults_out c.search.new.desk) c.task_of.ensures.rest (search_due (g.D.Desk.sight c.args.desk.now).names _ c.in-Ok.task c.in-Solve.found c.in-Solve.is c.in-Ok.ensures.due) c.search.ensures.searched e)
+
+pub returns-in-Ok-clause-out_seen : goal.returns-in-Ok-clause-out_seen
+returns-in-Ok-clause-out_seen g c =
+    λ more. seen_search c.in-Solve.found (g.D.Desk.sight c.task_of.new.desk) (g.D.Desk.sight c.search.new.desk) _ c.search.result (g.D.Desk.faults_out c.args.desk.now) (g.D.Desk.faults_out c.task_of.new.desk) (g.D.Desk.faults_out c.search.new.desk) c.task_of.ensures.other
+    (searched_words (g.D.Desk.sight c.args.desk.now).names _ c.in-Solve.found (search_due (g.D.Desk.sight c.args.desk.now).names _ c.in-Ok.task c.in-Solve.found c.in-Solve.is c.in-Ok.ensures.due)) c.search.ensures.searched more
 
 pub returns-in-Ok-clause-read_fault : goal.returns-in-Ok-clause-read_fault
 returns-in-Ok-clause-read_fault g c =
