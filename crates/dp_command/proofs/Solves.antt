@@ -2,7 +2,6 @@
 use Rattle.std.specs.Prelude.{◌≡◌, ◌≢◌, ◌⊎◌, ℕ, ◌<◌, ◌≤◌, Option, List, string_bytes}
 use Rattle.std.proofs.Common.{sym, ◌∙◌, ap, subst, inl, inr, arith}
 use Rattle.dp_desk.specs.Channel.{Channel, Files, Grows, GrowsByPart, IsAtEnd}
-use Rattle.dp_desk.specs.Causes.{Rose}
 use Rattle.dp_desk.specs.Sight.{Sight, with_output}
 use Rattle.dp_desk.specs.declared.desk.Out.TheVariants as Out
 use Rattle.dp_parts.specs.Problems.{Csp}
@@ -11,11 +10,11 @@ use Rattle.dp_solver.specs.declared.outcome.Outcome.TheVariants.{Solution, Unsat
 use Rattle.fz_model.specs.Models.{Plan}
 use Rattle.fz_solve.specs.Printed.{outcome_status, outcome_text}
 use Rattle.fz_solve.specs.Solved.{FilesFront, Solved, SolvedPart, SolvesFront}
-use Rattle.dp_command.proofs.Requests.{solve_is_no_check, solve_is_no_process, solve_is_no_show, solve_proves_not}
+use Rattle.dp_command.proofs.Requests.{solve_is_no_show}
 use Rattle.dp_command.specs.Due.{AreAtEnd, ChangesInputs, ReadsToEnd}
-use Rattle.dp_command.specs.Solving.{IsReplied, IsSolved, SolvesModel, SolvesModelPart}
+use Rattle.dp_command.specs.Solving.{IsSolved, SolvesModel, SolvesModelPart}
 use Rattle.dp_command.specs.Tasks.{IsSearched, Searches}
-use Rattle.dp_command.specs.Words.{Request, Check, Show, Process, Solve, Prove, Spells, IsCheck, IsProcess, IsSolve}
+use Rattle.dp_command.specs.Words.{Request, Check, Show, Process, Solve, Prove, Spells, IsSolve}
 use Rattle.dp_command.specs.declared.task.Search.{Search}
 
 -- ---- the status
@@ -172,7 +171,7 @@ left_search names words search was middle now r before later same s (inr (inr h)
 kept_count : (before between later : ℕ) → between ≡ before → later ≡ between → before < later → ⊥
 kept_count before between later e f g = omega (arith, e, f, g)
 
--- and what is counted is told, or is want of memory
+-- what is counted is told, or is want of memory
 pub seen_search : (search : Search) (middle now : Sight) (words : List (List ℕ)) (r before between later : ℕ) → between ≡ before → IsSolve words → IsSearched search r middle now between later →
     before < later → (r ≡ 6) ⊎ ((r ≡ 7) × IsSolve words)
 seen_search search middle now words r before between later same solve (inl h) more = absurd (kept_count before between later same h.1 more)
