@@ -262,9 +262,58 @@ unread_said reply was middle now r file text before later rest unread (inl h) e 
     (ap (λ (t : Sight). t.model) rest ∙ both.0, ap (λ (t : Sight). t.log) rest ∙ both.1)
 unread_said reply was middle now r file text before later rest unread (inr h) e = absurd (six_not_two r h.0 e)
 
+-- the log that a refused model leaves unread is as it was
+refused_by : (reply : Reply) (was now : Sight) → status_of reply ≡ 3 → LeavesUnread reply was now → now.log ≡ was.log
+refused_by NoCommand was now e h = absurd cc
+refused_by (ModelRefused refusal) was now e h = h
+refused_by (Accepted claim) was now e h = absurd cc
+refused_by (Unread refusal) was now e h = absurd cc
+refused_by (Refused refusal told) was now e h = absurd cc
+refused_by (ShownLog shown) was now e h = absurd (not_shown shown.refusal e)
+  where
+    not_shown : (refusal : Option ShowRefusal) → shown_status refusal ≡ 3 → ⊥
+    not_shown None e = cc
+    not_shown (Some refusal) e = cc
+refused_by (Processed o) was now e h = absurd (not_processed o e)
+  where
+    not_processed : (o : Outcome) → outcome_status o ≡ 3 → ⊥
+    not_processed (outcome.Done done) e = cc
+    not_processed (outcome.Unread refusal) e = cc
+    not_processed (outcome.Refused refusal text) e = cc
+    not_processed (outcome.NotFollowing failing) e = cc
+refused_by (Proved p) was now e h = absurd (not_proved p e)
+  where
+    not_proved : (p : Proving) → proving_status p ≡ 3 → ⊥
+    not_proved (proving.Solved text) e = cc
+    not_proved (proving.Unknown text) e = cc
+    not_proved (proving.Accepted text claim) e = cc
+    not_proved (proving.Unread refusal) e = cc
+    not_proved (proving.ScaffoldRefused refusal text) e = cc
+    not_proved (proving.NotFollowing number id) e = cc
+    not_proved (proving.LogRefused refusal text) e = cc
+
+six_not_three : (r : ℕ) → r ≡ 6 → r ≡ 3 → ⊥
+six_not_three r e f = omega (arith, e, f)
+
+pub refused_said : (reply : Reply) (was middle now : Sight) (r : ℕ) (file : Option (List ℕ)) (text : List ℕ) (before later : ℕ) →
+    now ≡ with_output Out.Answer now.answer (with_output Out.First now.first middle) → LeavesUnread reply was middle → WasHanded r (status_of reply) file text middle now before later → r ≡ 3 →
+    now.log ≡ was.log
+refused_said reply was middle now r file text before later rest unread (inl h) e = ap (λ (t : Sight). t.log) rest ∙ refused_by reply was middle (sym h.0 ∙ e) unread
+refused_said reply was middle now r file text before later rest unread (inr h) e = absurd (six_not_three r h.0 e)
+
+-- a failed write is counted
+pub rose_said : (reply : Reply) (middle now : Sight) (r : ℕ) (file : Option (List ℕ)) (text : List ℕ) (before between later : ℕ) →
+    between ≡ before → WasHanded r (status_of reply) file text middle now between later → r ≡ 6 → Rose before later
+rose_said reply middle now r file text before between later same (inl h) e = absurd (beyond (status_of reply) 6 (status_small reply) (sym h.0 ∙ e) (lit≤ tt))
+rose_said reply middle now r file text before between later same (inr h) e = subst (λ (n : ℕ). Rose n later) same h.2
+
 pub not_five : (r : ℕ) → (r ≤ 4) ⊎ (r ≡ 6) → r ≡ 5 → ⊥
 not_five r (inl e) f = omega (arith, e, f)
 not_five r (inr e) f = omega (arith, e, f)
+
+pub said_known : (r : ℕ) → (r ≤ 4) ⊎ (r ≡ 6) → r ≤ 7
+said_known r (inl e) = omega (arith, e)
+said_known r (inr e) = omega (arith, e)
 
 -- and the processed log stands in the file
 pub filed_said : (names : Option Files) (words : List (List ℕ)) (was now : Sight) (r : ℕ) → Said names words r was now → IsProcess words → r ≡ 0 → FilesProof names words now.first

@@ -2,7 +2,6 @@
 use Rattle.std.specs.Prelude.{◌≡◌, ◌≢◌, ◌⊎◌, ℕ, ◌<◌, ◌≤◌, Option, List, string_bytes}
 use Rattle.std.proofs.Common.{sym, ◌∙◌, ap, subst, inl, inr, arith}
 use Rattle.dp_desk.specs.Channel.{Channel, Files, Grows, GrowsByPart, IsAtEnd}
-use Rattle.dp_desk.specs.Causes.{Rose}
 use Rattle.dp_desk.specs.Sight.{Sight, with_output}
 use Rattle.dp_desk.specs.declared.desk.Out.TheVariants as Out
 use Rattle.dp_parts.specs.Problems.{Csp}
@@ -11,11 +10,11 @@ use Rattle.dp_solver.specs.declared.outcome.Outcome.TheVariants.{Solution, Unsat
 use Rattle.fz_model.specs.Models.{Plan}
 use Rattle.fz_solve.specs.Printed.{outcome_status, outcome_text}
 use Rattle.fz_solve.specs.Solved.{FilesFront, Solved, SolvedPart, SolvesFront}
-use Rattle.dp_command.proofs.Requests.{solve_is_no_check, solve_is_no_process, solve_is_no_show, solve_proves_not}
+use Rattle.dp_command.proofs.Requests.{solve_is_no_show}
 use Rattle.dp_command.specs.Due.{AreAtEnd, ChangesInputs, ReadsToEnd}
-use Rattle.dp_command.specs.Solving.{IsReplied, IsSolved, SolvesModel, SolvesModelPart}
+use Rattle.dp_command.specs.Solving.{IsSolved, SolvesModel, SolvesModelPart}
 use Rattle.dp_command.specs.Tasks.{IsSearched, Searches}
-use Rattle.dp_command.specs.Words.{Request, Check, Show, Process, Solve, Prove, Spells, IsCheck, IsProcess, IsSolve}
+use Rattle.dp_command.specs.Words.{Request, Check, Show, Process, Solve, Prove, Spells, IsSolve}
 use Rattle.dp_command.specs.declared.task.Search.{Search}
 
 -- ---- the status
@@ -35,29 +34,11 @@ search_ends search r was now before later (inl h) = inl (outcome_ends r h.0.outc
 search_ends search r was now before later (inr (inl h)) = inr (inl h.0)
 search_ends search r was now before later (inr (inr h)) = inr (inr h.0)
 
-pub not_two : (r : ℕ) → Ends r → r ≡ 2 → ⊥
-not_two r (inl (inl e)) f = omega (arith, e, f)
-not_two r (inl (inr e)) f = omega (arith, e, f)
-not_two r (inr (inl e)) f = omega (arith, e, f)
-not_two r (inr (inr e)) f = omega (arith, e, f)
-
-pub not_three : (r : ℕ) → Ends r → r ≡ 3 → ⊥
-not_three r (inl (inl e)) f = omega (arith, e, f)
-not_three r (inl (inr e)) f = omega (arith, e, f)
-not_three r (inr (inl e)) f = omega (arith, e, f)
-not_three r (inr (inr e)) f = omega (arith, e, f)
-
-pub not_five : (r : ℕ) → Ends r → r ≡ 5 → ⊥
-not_five r (inl (inl e)) f = omega (arith, e, f)
-not_five r (inl (inr e)) f = omega (arith, e, f)
-not_five r (inr (inl e)) f = omega (arith, e, f)
-not_five r (inr (inr e)) f = omega (arith, e, f)
-
-pub end_known : (r : ℕ) → Ends r → r ≤ 7
-end_known r (inl (inl e)) = omega (arith, e)
-end_known r (inl (inr e)) = omega (arith, e)
-end_known r (inr (inl e)) = omega (arith, e)
-end_known r (inr (inr e)) = omega (arith, e)
+pub search_not_five : (r : ℕ) → Ends r → r ≡ 5 → ⊥
+search_not_five r (inl (inl e)) f = omega (arith, e, f)
+search_not_five r (inl (inr e)) f = omega (arith, e, f)
+search_not_five r (inr (inl e)) f = omega (arith, e, f)
+search_not_five r (inr (inr e)) f = omega (arith, e, f)
 
 -- 0 and 4 are not 6 or 7
 whole : (r : ℕ) → (r ≡ 0) ⊎ (r ≡ 4) → 6 ≤ r → ⊥
@@ -72,16 +53,6 @@ seven r e = omega (arith, e)
 
 six_or_seven : (r : ℕ) → r ≡ 6 → r ≡ 7 → ⊥
 six_or_seven r e f = omega (arith, e, f)
-
--- no reply has its status
-unreplied_by : (r : ℕ) → Ends r → r ≤ 4 → (r ≢ 0) × (r ≢ 4) → ⊥
-unreplied_by r (inl (inl e)) f g = g.0 e
-unreplied_by r (inl (inr e)) f g = g.1 e
-unreplied_by r (inr (inl e)) f g = omega (arith, e, f)
-unreplied_by r (inr (inr e)) f g = omega (arith, e, f)
-
-pub unreplied : (words : List (List ℕ)) (r : ℕ) → Ends r → IsSolve words → IsReplied words r → ⊥
-unreplied words r ends solve replied = unreplied_by r ends replied.0 (replied.1 solve)
 
 -- a solve that is none of these opens no file
 pub unopened : (words : List (List ℕ)) (r : ℕ) → Ends r → IsSolve words → r ≢ 0 → r ≢ 6 → (IsSolve words → (r ≢ 4) × (r ≢ 7)) → ⊥
@@ -98,12 +69,6 @@ solved_small words r (solve, inr e) f = omega (arith, e, f)
 
 pub searched_words : (names : Option Files) (words : List (List ℕ)) (search : Search) → Searches names words search → IsSolve words
 searched_words names words search s = (s.name, string_bytes search.out, search.conflicts, s.asked)
-
-pub solve_checks_not : (words : List (List ℕ)) → IsSolve words → IsCheck words → ⊥
-solve_checks_not words solve (model, log, check) = solve_is_no_check words model log solve check
-
-pub solve_processes_not : (words : List (List ℕ)) → IsSolve words → IsProcess words → ⊥
-solve_processes_not words solve (model, scaffold, out, process) = solve_is_no_process words model scaffold out solve process
 
 -- what was read to its end, where a solve was asked for, is the model
 model_ended : (request : Request) (words : List (List ℕ)) (now : Sight) → Spells request words → AreAtEnd request now → IsSolve words → IsAtEnd now.model
@@ -203,23 +168,10 @@ left_search names words search was middle now r before later same s (inl h) e = 
 left_search names words search was middle now r before later same s (inr (inl h)) e = absurd (six_or_seven r h.0 e)
 left_search names words search was middle now r before later same s (inr (inr h)) e = solves_part names words search was middle now same s h.1
 
--- for want of memory nothing is told
-pub untold_search : (search : Search) (was middle now : Sight) (r before later : ℕ) →
-    ChangesInputs was middle → IsSearched search r middle now before later → r ≡ 7 → now.answer ≡ was.answer
-untold_search search was middle now r before later same (inl h) e = absurd (whole r (outcome_ends r h.0.outcome h.0.stands) (seven r e))
-untold_search search was middle now r before later same (inr (inl h)) e = absurd (six_or_seven r h.0 e)
-untold_search search was middle now r before later same (inr (inr h)) e = h.2 ∙ ap (λ (t : Sight). t.answer) same
-
--- a failed write is counted
-pub rose_search : (search : Search) (middle now : Sight) (r before between later : ℕ) → between ≡ before → IsSearched search r middle now between later → r ≡ 6 → Rose before later
-rose_search search middle now r before between later same (inl h) e = absurd (whole r (outcome_ends r h.0.outcome h.0.stands) (six r e))
-rose_search search middle now r before between later same (inr (inl h)) e = subst (λ (n : ℕ). Rose n later) same h.2
-rose_search search middle now r before between later same (inr (inr h)) e = absurd (six_or_seven r e h.0)
-
 kept_count : (before between later : ℕ) → between ≡ before → later ≡ between → before < later → ⊥
 kept_count before between later e f g = omega (arith, e, f, g)
 
--- and what is counted is told, or is want of memory
+-- what is counted is told, or is want of memory
 pub seen_search : (search : Search) (middle now : Sight) (words : List (List ℕ)) (r before between later : ℕ) → between ≡ before → IsSolve words → IsSearched search r middle now between later →
     before < later → (r ≡ 6) ⊎ ((r ≡ 7) × IsSolve words)
 seen_search search middle now words r before between later same solve (inl h) more = absurd (kept_count before between later same h.1 more)

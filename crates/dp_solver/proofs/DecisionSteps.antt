@@ -1,5 +1,5 @@
 -- Variables with one value, and decisions on those with several.
-use Rattle.std.proofs.Common.{◌≡◌, ℕ, ◌+◌, ◌<◌, ◌≤◌, true, false, not, T, ◌⊎◌, List, [], ◌∷◌, length, Option, Some, None, ℤ, pos, ◌≤ℤ◌, ◌<ℤ◌, refl, sym, ◌∙◌, ap, subst, inl, inr, arith}
+use Rattle.std.proofs.Common.{◌≡◌, ℕ, ◌<◌, true, false, not, T, ◌⊎◌, List, [], ◌∷◌, length, Option, Some, None, ℤ, pos, ◌≤ℤ◌, ◌<ℤ◌, refl, sym, ◌∙◌, ap, subst, inl, inr, arith}
 use Rattle.std.specs.Option.{unwrap_or}
 use Rattle.std.specs.Int.Signed.{lt_z, lt_z_no, lt_z_yes}
 use Rattle.std.specs.Prelude.{◌↔◌, Bool, IfNone, IfSome, IsSome}
@@ -7,15 +7,15 @@ use Rattle.std.proofs.lemmas.Int.{ints}
 use mir.Syntax.{w64}
 use mir.Val.{of_z, to_z}
 use Rattle.dp_base.specs.Lists.{Among}
-use Rattle.dp_domain.specs.Atoms.{Atomic, IsNameable, meets, negated}
+use Rattle.dp_domain.specs.Atoms.{Atomic, IsNameable, negated}
 use Rattle.dp_domain.specs.Sets.{IsDomain, IsSmall, greatest, least}
-use Rattle.dp_domain.specs.States.{Domains, entails, is_dead, values}
-use Rattle.dp_domain.specs.Turns.{at_least, at_most}
+use Rattle.dp_domain.specs.States.{Domains, is_dead, values}
+use Rattle.dp_domain.specs.Turns.{at_most}
 use Rattle.dp_domain.specs.declared.atom.Op.TheVariants.{Ge, Le}
 use Rattle.dp_domain.proofs.AtomLaws.{meets-negated, test-from_le, test-from_lt}
 use Rattle.dp_domain.proofs.SetLaws.{IsSmall-among, greatest-among, greatest-bound, least-among, least-bound}
 use Rattle.dp_domain.proofs.StateLaws.{alive-value, entails-not}
-use Rattle.dp_solver.specs.Descents.{IsFixed, IsOpenAt, lowest}
+use Rattle.dp_solver.specs.Descents.{IsOpenAt, lowest}
 
 none_some : {A : Type 0} (x : A) (P : Type 0) → None ≡ Some x → P
 none_some x P e = cc

@@ -1,11 +1,11 @@
 -- Propagation from the initial domains, a decision more, and the nogood of a conflict.
-use Rattle.std.proofs.Common.{◌≡◌, ℕ, ◌+◌, ◌<◌, ◌≤◌, Bool, true, false, ◌⊎◌, List, [], ◌∷◌, ◌++◌, length, refl, sym, ◌∙◌, ap, subst, inl, inr, arith, length-append}
+use Rattle.std.proofs.Common.{◌≡◌, ℕ, ◌+◌, ◌<◌, ◌≤◌, Bool, true, false, List, [], ◌∷◌, ◌++◌, length, refl, sym, ◌∙◌, ap, subst, inl, inr, arith, length-append}
 use Rattle.std.specs.List.{remove}
 use Rattle.std.proofs.lemmas.Bool.{both_ways}
 use Rattle.dp_base.specs.Lists.{Among, Each}
 use Rattle.dp_base.proofs.Lists.{Among-append_cases, Each-among, Each-from_among, list_all-at, list_all-from}
-use Rattle.dp_domain.specs.Atoms.{Atomic, negated}
-use Rattle.dp_domain.specs.States.{AreOf, Domains, IsWithin, cut, cut_all, entails, entails_all, is_dead, total}
+use Rattle.dp_domain.specs.Atoms.{Atomic}
+use Rattle.dp_domain.specs.States.{AreOf, Domains, IsWithin, cut, cut_all, entails, entails_all, total}
 use Rattle.dp_domain.proofs.ExplanationSteps.{cut_all-append}
 use Rattle.dp_domain.proofs.StateLaws.{IsWithin-cut, IsWithin-cut_all, IsWithin-trans, entails-cut, entails-cut_all, entails-within, length-cut, length-cut_all, total-cut}
 use Rattle.dp_engine.specs.Engines.{IsEngine, KeepsParts, Propagation, parts_of}
@@ -17,14 +17,14 @@ use Rattle.dp_engine.proofs.FailureLaws.{run-within}
 use Rattle.dp_engine.proofs.RunLaws.{run-induction}
 use Rattle.dp_engine.proofs.StateSteps.{Each-push}
 use Rattle.dp_engine.proofs.TurnLaws.{first-before, first-less}
-use Rattle.dp_learning.specs.Learning.{IsAtRest, IsLearned, IsNew, end_after, left_after}
+use Rattle.dp_learning.specs.Learning.{IsAtRest, IsNew, end_after, left_after}
 use Rattle.dp_learning.proofs.KeepLaws.{follows-from, keeps-assumed, keeps-base, keeps-run}
 use Rattle.dp_learning.proofs.LearnedLaws.{open-is-new}
 use Rattle.dp_learning.proofs.RestLaws.{cuts-keep, entailed-some, fails-or_rests, fewer-entailed_all, rest-survives, run-rests}
 use Rattle.dp_parts.specs.ProblemLaws.{soundly_posed}
 use Rattle.dp_parts.specs.Problems.{Csp, posed}
 use Rattle.dp_rule_clause.specs.Nogoods.{IsOnce}
-use Rattle.dp_solver.specs.Descents.{IsConflict, IsDescending, IsDescent, IsFixed, IsLearnable, IsLevel, IsOpenAt, IsReached, KeepsRest}
+use Rattle.dp_solver.specs.Descents.{IsConflict, IsDescending, IsFixed, IsLearnable, IsOpenAt, IsReached, KeepsRest}
 use Rattle.dp_solver.specs.Marks.{IsEngineOf, IsOn, state_at}
 use Rattle.dp_solver.proofs.MarkSteps.{engine-kept, parts-are, sound-of}
 use Rattle.dp_solver.proofs.RunSteps.{engine-sound, keeps-trans, same-parts}

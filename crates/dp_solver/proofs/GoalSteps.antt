@@ -1,18 +1,18 @@
 -- A better solution leaves fewer values to be searched.
-use Rattle.std.proofs.Common.{◌≡◌, ℕ, ◌<◌, true, false, not, List, [], ◌∷◌, length, Option, Some, None, ℤ, pos, ◌+ℤ◌, ◌-ℤ◌, ◌≤ℤ◌, refl, sym, ◌∙◌, ap, subst, inl, inr, arith}
+use Rattle.std.proofs.Common.{◌≡◌, ℕ, ◌<◌, true, false, not, List, [], ◌∷◌, length, Option, Some, None, ℤ, pos, ◌+ℤ◌, ◌-ℤ◌, ◌≤ℤ◌, refl, sym, ◌∙◌, ap, subst, inl, arith}
 use Rattle.std.specs.Option.{IfSome}
-use Rattle.std.proofs.lemmas.Bool.{and_parts, both_ways}
+use Rattle.std.proofs.lemmas.Bool.{and_parts}
 use Rattle.std.proofs.lemmas.Int.{ints}
 use Rattle.dp_base.specs.Lists.{Among}
 use Rattle.dp_domain.specs.Atoms.{Atomic, meets, negated}
-use Rattle.dp_domain.specs.States.{AreOf, Domains, IsWithin, cut, cut_all, entails, entails_all, total, values}
+use Rattle.dp_domain.specs.States.{AreOf, Domains, IsWithin, cut, entails, entails_all, total, values}
 use Rattle.dp_domain.specs.Turns.{at_least, at_most}
 use Rattle.dp_domain.specs.declared.verdict.Verdict.{Verdict}
 use Rattle.dp_domain.specs.declared.verdict.Verdict.TheVariants.{Unsat, Bound}
-use Rattle.dp_domain.proofs.AtomLaws.{le-from_test, meets-negated, test-from_le, test-from_lt}
+use Rattle.dp_domain.proofs.AtomLaws.{le-from_test, meets-negated, test-from_le}
 use Rattle.dp_domain.proofs.StateLaws.{Among-cut_meets, Among-cut_all, cut-entailed, cut_comm, entails-at, entails-from, entails-not, total-cut}
 use Rattle.dp_learning.specs.Learning.{denial_of}
-use Rattle.dp_learning.specs.Solutions.{IsSolutionOf, assigned, best_claim}
+use Rattle.dp_learning.specs.Solutions.{assigned, best_claim}
 use Rattle.dp_parts.specs.Problems.{Csp, IsGoalOf, IsProblem}
 use Rattle.dp_parts.specs.declared.goal.Goal.{Goal}
 use Rattle.dp_parts.specs.declared.goal.Goal.TheVariants.{Satisfy, Minimize, Maximize}

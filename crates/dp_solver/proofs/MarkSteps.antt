@@ -1,5 +1,5 @@
 -- An engine that stands on a problem at a mark, through its calls.
-use Rattle.std.proofs.Common.{◌≡◌, ℕ, ◌+◌, ◌<◌, ◌≤◌, List, [], ◌∷◌, ◌++◌, length, take, get_or, refl, sym, ◌∙◌, ap, subst, arith, length-append}
+use Rattle.std.proofs.Common.{◌≡◌, ℕ, ◌+◌, ◌≤◌, List, [], ◌∷◌, ◌++◌, length, take, get_or, refl, sym, ◌∙◌, ap, subst, arith, length-append}
 use Rattle.std.proofs.lemmas.List.{get_or-take, length-take, take-append-le, take_all}
 use Rattle.std.proofs.Math.Seq.{get_or-append_seam}
 use Rattle.dp_base.specs.Lists.{Each}
@@ -9,10 +9,9 @@ use Rattle.dp_engine.specs.Engines.{Begins, Extends, KeepsParts, KeepsStates, Pr
 use Rattle.dp_engine.specs.Placed.{AreSound, turn_order}
 use Rattle.dp_engine.proofs.PlacedLaws.{problem-sound}
 use Rattle.dp_engine.proofs.StateSteps.{Each-push}
-use Rattle.dp_parts.specs.Parts.{face_of}
 use Rattle.dp_parts.specs.declared.part.Part.{Part}
-use Rattle.dp_parts.specs.Problems.{Csp, labelled, posed}
-use Rattle.dp_solver.specs.Marks.{IsEngineOf, IsOn, state_at}
+use Rattle.dp_parts.specs.Problems.{Csp, posed}
+use Rattle.dp_solver.specs.Marks.{IsEngineOf, IsOn}
 
 -- ---- lists of states
 

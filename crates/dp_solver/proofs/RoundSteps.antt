@@ -1,5 +1,5 @@
 -- What the steps of a round leave.
-use Rattle.std.proofs.Common.{◌≡◌, ℕ, zero, suc, ◌+◌, ◌-◌, ◌^◌, ◌<◌, ◌≤◌, List, [], ◌∷◌, ◌++◌, length, map, get_or, Option, Some, None, Result, Ok, Err, ℤ, pos, refl, sym, ◌∙◌, ap, subst, arith, length-append}
+use Rattle.std.proofs.Common.{◌≡◌, ℕ, zero, suc, ◌+◌, ◌^◌, ◌<◌, ◌≤◌, List, [], ◌∷◌, ◌++◌, length, map, get_or, Option, Some, None, Result, Ok, Err, ℤ, pos, refl, sym, ◌∙◌, ap, subst, arith, length-append}
 use Rattle.std.specs.Prelude.{IfOk, IfSome, IsSome}
 use Rattle.std.specs.Option.{option_map}
 use Rattle.std.proofs.lemmas.List.{length-map}
@@ -11,17 +11,15 @@ use Rattle.dp_desk.proofs.Channels.{grows_by_all, grows_by_none}
 use Rattle.dp_domain.specs.Atoms.{Atomic}
 use Rattle.dp_domain.specs.States.{AreOf, Domains, cut_all, values}
 use Rattle.dp_domain.specs.declared.verdict.Verdict.{Verdict}
-use Rattle.dp_domain.specs.declared.verdict.Verdict.TheVariants.{Unsat as NoSolution, Bound}
 use Rattle.dp_domain.proofs.StateLaws.{length-cut_all}
 use Rattle.dp_engine.specs.Engines.{KeepsParts, KeepsStates, Propagation, Starts}
 use Rattle.dp_learning.specs.Learning.{AreLearned, Concludes, denial_of, end_after}
 use Rattle.dp_learning.specs.Scaffolds.{scaffold_of, steps_of}
-use Rattle.dp_learning.specs.Solutions.{IsSolutionOf, assigned, best_claim, cut_problem, open_claim}
+use Rattle.dp_learning.specs.Solutions.{IsSolutionOf, assigned, cut_problem, open_claim}
 use Rattle.dp_learning.specs.Sorts.{sort_count}
 use Rattle.dp_learning.proofs.CountingLaws.{fewer-learned}
 use Rattle.dp_learning.proofs.LearnedLaws.{learned-more, learned-none}
 use Rattle.dp_learning.proofs.SolutionLaws.{cut-problem-kept, rest-solution}
-use Rattle.dp_engine.specs.declared.turn.Turn.{Turn}
 use Rattle.dp_engine.specs.declared.turn.Turn.TheVariants.{Quiet}
 use Rattle.dp_lines.specs.Allowed.{IsAllowed}
 use Rattle.dp_parts.specs.ProblemLaws.{soundly_posed}
@@ -29,8 +27,8 @@ use Rattle.dp_parts.specs.Problems.{Csp, IsGoalOf, IsProblem, posed}
 use Rattle.dp_parts.specs.declared.goal.Goal.{Goal}
 use Rattle.dp_parts.specs.declared.goal.Goal.TheVariants.{Satisfy}
 use Rattle.dp_rule_clause.specs.Nogoods.{IsOnce}
-use Rattle.dp_solver.specs.Descents.{IsConflict, IsFixed, IsLearnable, IsReached, lowest}
-use Rattle.dp_solver.specs.Marks.{IsOn, state_at}
+use Rattle.dp_solver.specs.Descents.{IsLearnable, IsReached, lowest}
+use Rattle.dp_solver.specs.Marks.{IsOn}
 use Rattle.dp_solver.specs.Outcomes.{IsDecided, IsOutcome, Solves, SolvesInPart}
 use Rattle.dp_solver.specs.Rounds.{IsBest, IsFresh, IsRound, IsSearching, IsSolutionAt, IsWritten, claim_of, decided, open_values, undecided, work}
 use Rattle.dp_solver.specs.declared.outcome.Outcome.{Outcome}

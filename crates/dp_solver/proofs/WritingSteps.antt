@@ -1,12 +1,11 @@
 -- A nogood or a claim behind the nogoods that were written.
-use Rattle.std.proofs.Common.{◌≡◌, ℕ, ◌+◌, List, [], ◌∷◌, ◌++◌, map, Option, Some, None, Result, Ok, Err, refl, sym, ◌∙◌, ap, subst, append_assoc, append-nil}
+use Rattle.std.proofs.Common.{◌≡◌, ℕ, List, [], ◌∷◌, ◌++◌, map, Some, None, Result, Ok, Err, sym, ◌∙◌, ap, subst, append-nil}
 use Rattle.std.specs.List.{flat_map}
 use Rattle.std.specs.Prelude.{OnErr}
-use Rattle.std.specs.Option.{option_to_list}
 use Rattle.std.proofs.lemmas.List.{map-append}
 use Rattle.std.proofs.lemmas.List.Concat.{flat_map-append}
 use Rattle.dp_base.specs.Lists.{Each}
-use Rattle.dp_desk.specs.Channel.{Channel, Grows, GrowsByPart, IsOpen}
+use Rattle.dp_desk.specs.Channel.{Channel, Grows, GrowsByPart}
 use Rattle.dp_desk.proofs.Channels.{grows_by_all, grows_by_front, grows_then_part, grows_twice}
 use Rattle.dp_domain.specs.Atoms.{Atomic}
 use Rattle.dp_domain.specs.declared.verdict.Verdict.{Verdict}

@@ -1,5 +1,5 @@
 -- The way down: propagation, decisions, conflicts.
-use Rattle.std.specs.Prelude.{◌≡◌, ℕ, ◌<◌, true, false, List, ◌∷◌, [], length, map, ℤ, pos}
+use Rattle.std.specs.Prelude.{◌≡◌, ℕ, ◌<◌, true, false, List, ◌∷◌, [], length, ℤ, pos}
 use Rattle.std.specs.Option.{unwrap_or}
 use Rattle.dp_domain.specs.Atoms.{Atomic, negated}
 use Rattle.dp_domain.specs.Sets.{least}

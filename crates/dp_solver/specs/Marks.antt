@@ -1,5 +1,5 @@
 -- What is asked of a search, and an engine that stands on it.
-use Rattle.std.specs.Prelude.{◌≡◌, ℕ, ◌≤◌, List, [], length, get_or}
+use Rattle.std.specs.Prelude.{◌≡◌, ℕ, ◌≤◌, [], length, get_or}
 use Rattle.dp_base.specs.Lists.{Each}
 use Rattle.dp_domain.specs.States.{AreOf, Domains}
 use Rattle.dp_engine.specs.Engines.{Propagation, states}

@@ -12,7 +12,6 @@ use Rattle.dp_learning.specs.Scaffolds.{scaffold_of, steps_of}
 use Rattle.dp_learning.specs.Solutions.{IsSolutionOf, best_claim, open_claim}
 use Rattle.dp_lines.specs.Allowed.{IsAllowed}
 use Rattle.dp_parts.specs.Problems.{Csp, posed}
-use Rattle.dp_parts.specs.declared.goal.Goal.{Goal}
 use Rattle.dp_parts.specs.declared.goal.Goal.TheVariants.{Satisfy}
 use Rattle.dp_rule_clause.specs.Nogoods.{IsOnce}
 use Rattle.dp_solver.specs.declared.outcome.Outcome.{Outcome}

@@ -13,11 +13,7 @@ use fz_output::solution_lines;
 use std::alloc::Global;
 
 /// The text of an outcome of the model.
-pub fn outcome_text(
-    alloc: Global,
-    model: &Model,
-    outcome: &Outcome,
-) -> Result<Vec<u8>, Memory>
+pub fn outcome_text(alloc: Global, model: &Model, outcome: &Outcome) -> Result<Vec<u8>, Memory>
     ensures { IfOk result (λ text. text.items ≡ spec.outcome_text model.now outcome.now) }
 {
     match outcome {

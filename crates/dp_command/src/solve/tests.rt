@@ -41,10 +41,10 @@ fn file_of(alloc: Global, words: &[&str], model: &str, log: &[u8]) -> Result<Vec
 
 // How many lines of a text begin with a byte.
 fn lines_with(text: &[u8], first: u8) -> usize {
-    let mut count = 0;
+    let mut count: usize = 0;
     for line in text.split(|byte| *byte == b'\n') {
         if line.first() == Some(&first) {
-            count += 1;
+            count = count.saturating_add(1);
         }
     }
     count

@@ -3,8 +3,8 @@ use Rattle.std.specs.Prelude.{ℕ}
 use Rattle.std.proofs.Common.{◌∙◌, inl, inr, refl, subst, sym}
 use Rattle.dp_desk.specs.Causes.{Rose}
 use Rattle.dp_command.proofs.Proves.{good_small, limit_said, one_small, says_said}
-use Rattle.dp_command.proofs.Says.{ended_said, filed_said, front_fault, front_said, handed_small, not_five, not_seven, rest_said, said_of, truth_said, unfiled, unfiled_words, unread_said, unsolved, zero_small}
-use Rattle.dp_command.proofs.Solves.{front_search, left_search, search_ends, searched_words, seen_search, solved_search, unopened}
+use Rattle.dp_command.proofs.Says.{ended_said, filed_said, front_fault, front_said, handed_small, not_five, not_seven, refused_said, rest_said, rose_said, said_known, said_of, truth_said, unfiled, unfiled_words, unread_said, unsolved, zero_small}
+use Rattle.dp_command.proofs.Solves.{front_search, left_search, search_ends, search_not_five, searched_words, seen_search, solved_search, unopened}
 use Rattle.dp_command.proofs.Tasks.{fault_rose, reply_due, reply_good, reply_sound, reply_unread, search_due, search_good}
 use Rattle.dp_command.specs.Due.{ReadsToEnd}
 use Rattle.dp_command.specs.Texts.{file_of}
@@ -89,6 +89,23 @@ pub returns-in-Ok-text-clause-rest : goal.returns-in-Ok-text-clause-rest
 returns-in-Ok-text-clause-rest g c =
     rest_said (g.D.Desk.sight c.args.desk.now) (g.D.Desk.sight c.task_of.new.desk) (g.D.Desk.sight c.hand_over.new.desk) c.task_of.ensures.rest c.hand_over.ensures.rest
 
+pub returns-in-Ok-text-clause-unread_log : goal.returns-in-Ok-text-clause-unread_log
+returns-in-Ok-text-clause-unread_log g c =
+    refused_said c.in-Say.reply (g.D.Desk.sight c.args.desk.now) (g.D.Desk.sight c.task_of.new.desk) (g.D.Desk.sight c.hand_over.new.desk) c.hand_over.result _ c.as_slice.result.now (g.D.Desk.faults_out c.task_of.new.desk) (g.D.Desk.faults_out c.hand_over.new.desk)
+    c.hand_over.ensures.rest (reply_unread (g.D.Desk.sight c.args.desk.now) (g.D.Desk.sight c.task_of.new.desk) c.in-Ok.task c.in-Say.reply c.in-Say.is c.in-Ok.ensures.unread) c.hand_over.ensures.said
+
+pub returns-in-Ok-text-clause-write_fault : goal.returns-in-Ok-text-clause-write_fault
+returns-in-Ok-text-clause-write_fault g c =
+    rose_said c.in-Say.reply (g.D.Desk.sight c.task_of.new.desk) (g.D.Desk.sight c.hand_over.new.desk) c.hand_over.result _ c.as_slice.result.now (g.D.Desk.faults_out c.args.desk.now) (g.D.Desk.faults_out c.task_of.new.desk) (g.D.Desk.faults_out c.hand_over.new.desk) c.task_of.ensures.other c.hand_over.ensures.said
+
+pub returns-in-Ok-text-clause-nothing : goal.returns-in-Ok-text-clause-nothing
+returns-in-Ok-text-clause-nothing g c =
+    λ e. absurd (not_seven c.hand_over.result (handed_small c.in-Say.reply c.as_slice.result.now (file_of c.in-Say.reply) (g.D.Desk.sight c.task_of.new.desk) (g.D.Desk.sight c.hand_over.new.desk) c.hand_over.result (g.D.Desk.faults_out c.task_of.new.desk) (g.D.Desk.faults_out c.hand_over.new.desk) c.hand_over.ensures.said) e)
+
+pub returns-in-Ok-text-clause-known : goal.returns-in-Ok-text-clause-known
+returns-in-Ok-text-clause-known g c =
+    said_known c.hand_over.result (handed_small c.in-Say.reply c.as_slice.result.now (file_of c.in-Say.reply) (g.D.Desk.sight c.task_of.new.desk) (g.D.Desk.sight c.hand_over.new.desk) c.hand_over.result (g.D.Desk.faults_out c.task_of.new.desk) (g.D.Desk.faults_out c.hand_over.new.desk) c.hand_over.ensures.said)
+
 -- ---- a search
 
 pub returns-in-Ok-clause-solved : goal.returns-in-Ok-clause-solved
@@ -112,6 +129,10 @@ pub returns-in-Ok-clause-out_seen : goal.returns-in-Ok-clause-out_seen
 returns-in-Ok-clause-out_seen g c =
     λ more. seen_search c.in-Solve.found (g.D.Desk.sight c.task_of.new.desk) (g.D.Desk.sight c.search.new.desk) _ c.search.result (g.D.Desk.faults_out c.args.desk.now) (g.D.Desk.faults_out c.task_of.new.desk) (g.D.Desk.faults_out c.search.new.desk) c.task_of.ensures.other
     (searched_words (g.D.Desk.sight c.args.desk.now).names _ c.in-Solve.found (search_due (g.D.Desk.sight c.args.desk.now).names _ c.in-Ok.task c.in-Solve.found c.in-Solve.is c.in-Ok.ensures.due)) c.search.ensures.searched more
+
+pub returns-in-Ok-clause-read_fault : goal.returns-in-Ok-clause-read_fault
+returns-in-Ok-clause-read_fault g c =
+    λ e. absurd (search_not_five c.search.result (search_ends c.in-Solve.found c.search.result (g.D.Desk.sight c.task_of.new.desk) (g.D.Desk.sight c.search.new.desk) (g.D.Desk.faults_out c.task_of.new.desk) (g.D.Desk.faults_out c.search.new.desk) c.search.ensures.searched) e)
 
 -- ---- a read fault
 

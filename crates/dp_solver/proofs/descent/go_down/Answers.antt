@@ -2,7 +2,6 @@
 use Rattle.std.proofs.Common.{subst}
 use Rattle.dp_domain.proofs.StateLaws.{IsWithin-trans}
 use Rattle.dp_solver.specs.Descents.{IsLevel}
-use Rattle.dp_solver.specs.declared.descent.Level.{Level}
 use Rattle.dp_solver.proofs.DescentSteps.{go-conflict, go-reached}
 use Rattle.dp_solver.proofs.RunSteps.{extends-trans, keeps-trans}
 use Rattle.dp_solver.proofs.descent.go_down.Goals as goal

@@ -1,5 +1,4 @@
 -- Each turn leads on in the run, or is its end.
-use Rattle.std.proofs.Common.{sym}
 use Rattle.dp_engine.specs.declared.turn.Turn.TheVariants.{Clash, Quiet, Empty}
 use Rattle.dp_solver.proofs.RunSteps.{extends-trans, keeps-trans, step-ends, step-goes}
 use Rattle.dp_solver.proofs.rest.counted_run.Goals as goal

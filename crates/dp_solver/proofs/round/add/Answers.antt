@@ -1,6 +1,5 @@
 -- The nogood stands behind those before it, in the scaffold and in the engine.
-use Rattle.std.proofs.Common.{◌≡◌, List, [], ◌∷◌, ◌++◌, length, sym, ◌∙◌, ap, subst, refl}
-use Rattle.dp_base.specs.Lists.{Each}
+use Rattle.std.proofs.Common.{List, [], ◌∷◌, ◌++◌, sym, ◌∙◌, ap, refl}
 use Rattle.dp_desk.specs.Sight.{output}
 use Rattle.dp_domain.specs.Atoms.{Atomic}
 use Rattle.dp_solver.specs.Marks.{asked}

@@ -1,7 +1,5 @@
 -- The claim stands behind the nogoods.
-use Rattle.std.proofs.Common.{subst, sym}
 use Rattle.dp_desk.specs.Sight.{output}
-use Rattle.dp_domain.specs.declared.verdict.Verdict.{Verdict}
 use Rattle.dp_solver.specs.Marks.{asked}
 use Rattle.dp_solver.proofs.RoundSteps.{claim-on, concluded, concluded-part}
 use Rattle.dp_solver.proofs.WritingSteps.{on-err}
