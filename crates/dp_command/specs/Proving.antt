@@ -1,5 +1,5 @@
 -- What proving a model ends with, by the own names of variables.
-use Rattle.std.specs.Prelude.{◌≡◌, ℕ, ◌==◌, if◌then◌else◌, List}
+use Rattle.std.specs.Prelude.{◌≡◌, ℕ, ◌==◌, if◌then◌else◌}
 use Rattle.dp_judge.specs.Logs.{IsOfGoal}
 use Rattle.dp_parts.specs.Problems.{Csp}
 use Rattle.fz_model.specs.Models.{Plan}
