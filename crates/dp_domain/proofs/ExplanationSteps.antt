@@ -10,8 +10,8 @@ use Rattle.dp_base.proofs.Lists.{Each-weaker, list_any-some, list_any-at}
 use Rattle.dp_domain.specs.Atoms.{Atomic}
 use Rattle.dp_domain.specs.Sets.{IsDomain, IsSmall, least, greatest}
 use Rattle.dp_domain.specs.States.{Domains, values, cut, cut_all, AreOf}
-use Rattle.dp_domain.specs.Faces.{Face, Covers}
-use Rattle.dp_domain.specs.Explanations.{has, failing, suffices, Describes}
+use Rattle.dp_domain.specs.Faces.{Covers}
+use Rattle.dp_domain.specs.Explanations.{has, Describes}
 use Rattle.dp_domain.proofs.AtomLaws.{same-from_tests, tests-from_same}
 use Rattle.dp_domain.proofs.SetLaws.{IsSmall-among, least-among, greatest-among}
 use Rattle.dp_domain.proofs.StateLaws.{length-cut_all}
@@ -83,8 +83,3 @@ length_cut s t xs e = ap (λ (d : Domains). length d) e ∙ length-cut_all s xs
 
 pub of_same : (d e : Domains) (atoms : List Atomic) → length e ≡ length d → AreOf d atoms → AreOf e atoms
 of_same d e atoms n h = subst (λ k. Each (λ (a : Atomic). a.var < k) atoms) (sym n) h
-
-pub all_cuts : (f : Face) (i s t u v : Domains) (kept rest : List Atomic) (target : Option Atomic) → s ≡ i → t ≡ cut_all s kept → u ≡ cut_all t rest → v ≡ cut_all u (failing target) → f.test v ≡ suffices f i target (kept ++ rest)
-all_cuts f i s t u v kept rest target e g h k =
-    ap f.test (k ∙ ap (λ d. cut_all d (failing target)) (h ∙ ap (λ d. cut_all d rest) (g ∙ ap (λ d. cut_all d kept) e) ∙ sym (cut_all-append i kept rest))
-    ∙ sym (cut_all-append i (kept ++ rest) (failing target)))

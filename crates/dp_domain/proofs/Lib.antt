@@ -21,3 +21,4 @@ pub mod TestLaws
 pub mod SeekLaws
 pub mod OutsideLaws
 pub mod SupportLaws
+pub mod WorkingLaws

@@ -1,16 +1,16 @@
 // Why one part clashes or gives an atom, by its test: atom by atom.
 
-ghost use Rattle.std.specs.Prelude.{◌≡◌, ◌≤◌, false, true, [], ◌∷◌, ◌++◌, length, drop, IfOk, OnOk, if◌then◌else◌};
+ghost use Rattle.std.specs.Prelude.{◌≡◌, ◌<◌, ◌≤◌, false, true, not, [], ◌∷◌, ◌++◌, length, drop, filter, slice_set, IfOk, OnOk, if◌then◌else◌};
 ghost use Rattle.dp_domain.specs.Explanations.{Explains, IsOpen, explanation, failing, needed, suffices};
 ghost use Rattle.dp_domain.specs.Faces.{Covers};
-ghost use Rattle.dp_domain.specs.States.{AreOf, IsWithin, cut_all, is_dead};
+ghost use Rattle.dp_domain.specs.States.{AreOf, IsWithin, cut_all, fails_one, is_dead, values};
 
-use crate::{Atom, Memory, State, Test, VarId};
+use crate::{Atom, Dom, Memory, State, Test, VarId};
 use std::alloc::Global;
 
 /// The explanation of any part, found by its test: the description of the state `now` beyond the
 /// initial one, with each atom dropped in turn where those kept and those to come suffice without it.
-/// Each test copies the initial state.
+/// It copies the initial state once; for each test it makes the set of one variable anew.
 pub fn search_explanation<R: Test>(
     rule: &R,
     initial: &State,
@@ -41,7 +41,8 @@ fn scope_of<R: Test>(rule: &R, alloc: Global) -> Result<Vec<VarId>, Memory>
     Ok(scope)
 }
 
-/// The atoms without which the others do not suffice, from the first on.
+/// The atoms without which the others do not suffice, from the first on. The one working copy is the
+/// initial state cut by the atoms kept and those to come, and by the target's failing.
 fn needed<R: Test>(
     rule: &R,
     initial: &State,
@@ -53,55 +54,104 @@ fn needed<R: Test>(
     requires target { AreOf initial.now (failing target.now) }
     ensures { IfOk result (λ kept. kept.items ≡ needed (R.face rule.now) initial.now target.now [] atoms.now) }
 {
+    let mut state = cut_copy(initial, target, atoms)?;
     let mut kept = Vec::new(initial.allocator());
     for place in 0..atoms.len() {
         let rest = rest_of(atoms, place + 1);
-        keep_needed(rule, initial, target, &mut kept, atoms[place], rest)?;
+        keep_needed(
+            rule,
+            initial,
+            target,
+            &mut state,
+            &mut kept,
+            atoms[place],
+            rest,
+        )?;
     }
     Ok(kept)
 }
 
-/// Keeps the atom where those kept and those to come do not suffice without it.
+/// Keeps the atom where those kept and those to come do not suffice without it. Else the state loses
+/// the atom's cut.
 fn keep_needed<R: Test>(
     rule: &R,
     initial: &State,
     target: &Option<Atom>,
+    state: &mut State,
     kept: &mut Vec<Atom>,
     atom: Atom,
     rest: &[Atom],
 ) -> Result<(), Memory>
     requires covers { Covers (R.face rule.now).scope initial.now }
-    requires kept { AreOf initial.now kept.old.items }
-    requires rest { AreOf initial.now rest.now }
-    requires target { AreOf initial.now (failing target.now) }
-    ensures { OnOk result (kept.new.items ≡ (if suffices (R.face rule.now) initial.now target.now (kept.old.items ++ rest.now) then kept.old.items else kept.old.items ++ atom ∷ [])) }
+    requires var { atom.var < length initial.now }
+    requires state { state.old ≡ cut_all initial.now ((kept.old.items ++ atom ∷ rest.now) ++ failing target.now) }
+    ensures kept { OnOk result (kept.new.items ≡ (if suffices (R.face rule.now) initial.now target.now (kept.old.items ++ rest.now) then kept.old.items else kept.old.items ++ atom ∷ [])) }
+    ensures state { OnOk result (state.new ≡ cut_all initial.now ((kept.new.items ++ rest.now) ++ failing target.now)) }
 {
-    let enough = suffices(rule, initial, target, kept.as_slice(), rest)?;
+    let set = set_by(initial, target, atom.var(), kept.as_slice(), rest)?;
+    let old = state.replace(atom.var(), set);
+    let enough = rule.clash(state)?;
     if !enough {
-        kept.push(atom)?;
+        keep(state, kept, atom, old)?;
     }
     Ok(())
 }
 
-/// Whether the part clashes at the state with these atoms where the target fails.
-fn suffices<R: Test>(
-    rule: &R,
-    initial: &State,
-    target: &Option<Atom>,
-    kept: &[Atom],
-    rest: &[Atom],
-) -> Result<bool, Memory>
-    requires covers { Covers (R.face rule.now).scope initial.now }
-    requires kept { AreOf initial.now kept.now }
-    requires rest { AreOf initial.now rest.now }
+/// Keeps the atom, and puts the old set of its variable back.
+fn keep(state: &mut State, kept: &mut Vec<Atom>, atom: Atom, old: Dom) -> Result<(), Memory>
+    requires { atom.var < length state.old }
+    ensures kept { OnOk result (kept.new.items ≡ kept.old.items ++ atom ∷ []) }
+    ensures state { state.new ≡ slice_set state.old atom.var old }
+{
+    state.replace(atom.var(), old);
+    Ok(kept.push(atom)?)
+}
+
+/// A copy of the state, cut by the atoms and by the negation of the target.
+fn cut_copy(initial: &State, target: &Option<Atom>, atoms: &[Atom]) -> Result<State, Memory>
+    requires atoms { AreOf initial.now atoms.now }
     requires target { AreOf initial.now (failing target.now) }
-    ensures { IfOk result (λ enough. enough ≡ suffices (R.face rule.now) initial.now target.now (kept.now ++ rest.now)) }
+    ensures { IfOk result (λ state. state ≡ cut_all initial.now (atoms.now ++ failing target.now)) }
 {
     let mut state = initial.copy()?;
-    cut_by(&mut state, kept)?;
-    cut_by(&mut state, rest)?;
+    cut_by(&mut state, atoms)?;
     cut_target(&mut state, target)?;
-    rule.clash(&state)
+    Ok(state)
+}
+
+/// The variable's set in the state cut by these atoms, and by the negation of the target.
+fn set_by(
+    initial: &State,
+    target: &Option<Atom>,
+    var: VarId,
+    kept: &[Atom],
+    rest: &[Atom],
+) -> Result<Dom, Memory>
+    requires { var < length initial.now }
+    ensures { IfOk result (λ set. set ≡ values (cut_all initial.now ((kept.now ++ rest.now) ++ failing target.now)) var) }
+{
+    let by_kept = meeting(initial.set(var), var, kept)?;
+    let by_rest = meeting(&by_kept, var, rest)?;
+    missing(by_rest, var, target)
+}
+
+/// The numbers that fail the target, where there is one on the variable.
+fn missing(set: Dom, var: VarId, target: &Option<Atom>) -> Result<Dom, Memory>
+    ensures { IfOk result (λ left. left ≡ filter (λ v. not (fails_one var (failing target.now) v)) set) }
+{
+    match target {
+        Some(atom) => meeting(&set, var, &[atom.negated()]),
+        None => Ok(set),
+    }
+}
+
+/// The numbers that, as the variable's value, meet each of the atoms on it.
+fn meeting(set: &Dom, var: VarId, atoms: &[Atom]) -> Result<Dom, Memory>
+    ensures { IfOk result (λ left. left ≡ filter (λ v. not (fails_one var atoms.now v)) set.now) }
+{
+    let mut refuted = set.copy()?;
+    refuted.refute(var, atoms)?;
+    set.without(&refuted)
 }
 
 /// Cuts the state by the negation of the target, where there is one.
