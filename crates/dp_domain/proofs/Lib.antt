@@ -22,3 +22,4 @@ pub mod SeekLaws
 pub mod OutsideLaws
 pub mod SupportLaws
 pub mod WorkingLaws
+pub mod BisectSteps

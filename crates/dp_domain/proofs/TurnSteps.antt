@@ -24,14 +24,15 @@ ascending-places (x ∷ xs) a j zero d h l = absurd (omega arith)
 ascending-places (x ∷ xs) a zero (suc k) d h l = Each-get_or (λ y. x <ℤ y) xs k d (omega arith) a.0
 ascending-places (x ∷ xs) a (suc j) (suc k) d h l = ascending-places xs a.1 j k d (omega arith) (omega arith)
 
-places_le : (xs : List ℤ) → IsAscending xs → (j k : ℕ) (d : ℤ) → j ≤ k → k < length xs → get_or xs j d ≤ℤ get_or xs k d
+-- and an earlier place has no greater value
+pub places_le : (xs : List ℤ) → IsAscending xs → (j k : ℕ) (d : ℤ) → j ≤ k → k < length xs → get_or xs j d ≤ℤ get_or xs k d
 places_le xs a j k d h l = elim (cases_eq j k) [
   | inl e ↦ let f : get_or xs j d ≡ get_or xs k d = ap (λ (n : ℕ). get_or xs n d) e in omega (arith, ints)
   | inr n ↦ let p = ascending-places xs a j k d (omega arith) l in omega (arith, ints)
 ]
 
 -- a value that passes stands at a place that passes
-place_of : (p : ℤ → Bool) (xs : List ℤ) (v d : ℤ) → Among v (filter p xs) → (k : ℕ) × (k < length xs) × (get_or xs k d ≡ v) × (p (get_or xs k d) ≡ true)
+pub place_of : (p : ℤ → Bool) (xs : List ℤ) (v d : ℤ) → Among v (filter p xs) → (k : ℕ) × (k < length xs) × (get_or xs k d ≡ v) × (p (get_or xs k d) ≡ true)
 place_of p xs v d h =
     let r = Among-filter_only p xs v h in
     let c = Contains-from_among v xs r.0 in

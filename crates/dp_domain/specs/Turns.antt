@@ -1,5 +1,5 @@
 -- What a part gives at a state: a clash, or the one atom that is its turn.
-use Rattle.std.specs.Prelude.{◌≡◌, ℕ, ◌≤◌, Bool, true, false, not, ◌&&◌, Option, Some, None, option_map, filter, if◌then◌else◌, List, [], ◌∷◌, ℤ, ◌≤ℤ◌}
+use Rattle.std.specs.Prelude.{◌≡◌, ℕ, ◌+◌, ◌<◌, ◌≤◌, ◌⊎◌, Bool, true, false, not, ◌&&◌, Option, Some, None, option_map, filter, if◌then◌else◌, List, [], ◌∷◌, length, get_or, ℤ, pos, ◌≤ℤ◌}
 use Rattle.dp_base.specs.Lists.{Among}
 use Rattle.dp_domain.specs.Atoms.{Atomic, negated}
 use Rattle.dp_domain.specs.declared.atom.Op.{Op}
@@ -55,6 +55,16 @@ given f d (x ∷ xs) = or_else (given_on f d x) (given f d xs)
 -- the turn of one part at a nonempty state
 abbrev pub turn_of : Face → Domains → Option Found
 turn_of f d = if f.test d then Some Clash else option_map Atom (given f d f.scope)
+
+-- of the values that are new lower bounds that follow, the one at the place is the last; at place 0 there is none
+pub record IsLastLower (f : Face) (d : Domains) (x : ℕ) (xs : List ℤ) (place : ℕ) : Type 0 where
+  pub given : (place ≡ 0) ⊎ ((place < length xs) × (gives f d (at_least x (get_or xs place (pos 0))) ≡ true))
+  pub none : (k : ℕ) → place < k → k < length xs → gives f d (at_least x (get_or xs k (pos 0))) ≡ false
+
+-- of the values that are new upper bounds that follow, the one at the place is the first; at the last place of all there is none
+pub record IsFirstUpper (f : Face) (d : Domains) (x : ℕ) (xs : List ℤ) (place : ℕ) : Type 0 where
+  pub given : (length xs ≤ place + 1) ⊎ (gives f d (at_most x (get_or xs place (pos 0))) ≡ true)
+  pub none : (k : ℕ) → k < place → k < length xs → gives f d (at_most x (get_or xs k (pos 0))) ≡ false
 
 -- ---- the same in words of all integers
 

@@ -1,16 +1,17 @@
-// The turn of one part, by its test: value by value.
+// The turn of one part, by its test.
 
-ghost use Rattle.std.specs.Prelude.{◌≡◌, ◌+◌, ◌<◌, ◌&&◌, false, length, IfOk};
+ghost use Rattle.std.specs.Prelude.{◌≡◌, ◌+◌, ◌<◌, ◌&&◌, false, length, IfOk, OnOk};
 ghost use Rattle.dp_domain.specs.Faces.{Covers};
-ghost use Rattle.dp_domain.specs.Sets.{IsSmall};
-ghost use Rattle.dp_domain.specs.States.{is_dead};
-ghost use Rattle.dp_domain.specs.Turns.{IsTurn, given, given_on, gives, new_hole, new_lower, new_upper, other_than, turn_of};
+ghost use Rattle.dp_domain.specs.Sets.{IsDomain, IsSmall};
+ghost use Rattle.dp_domain.specs.States.{is_dead, values};
+ghost use Rattle.dp_domain.specs.Turns.{IsFirstUpper, IsLastLower, IsTurn, given, given_on, gives, new_hole, new_lower, new_upper, other_than, turn_of};
 
 use crate::{Atom, Found, Memory, Op, State, Steps, Test, VarId};
 use std::sync::ledger::Ledger;
 
 /// The turn of any part at a nonempty state, found by its test. It ticks once, also where it answers
-/// `Memory`. It tries each value of each variable of the scope, with a copy of the state for each.
+/// `Memory`. It copies the state once; for each test it makes the set of one variable anew. It finds
+/// bounds by bisection over the values, and tries each point for a hole.
 pub fn search_turn<R: Test, L: Ledger>(
     rule: &R,
     state: &State,
@@ -34,19 +35,21 @@ fn found<R: Test>(rule: &R, state: &State) -> Result<Option<Found>, Memory>
     if clash {
         return Ok(Some(Found::Clash));
     }
-    match given(rule, state)? {
+    let mut work = state.copy()?;
+    match given(rule, state, &mut work)? {
         Some(atom) => Ok(Some(Found::Atom(atom))),
         None => Ok(None),
     }
 }
 
 /// What the part gives on the first variable that it gives something on.
-fn given<R: Test>(rule: &R, state: &State) -> Result<Option<Atom>, Memory>
-    requires { Covers (R.face rule.now).scope state.now }
+fn given<R: Test>(rule: &R, state: &State, work: &mut State) -> Result<Option<Atom>, Memory>
+    requires covers { Covers (R.face rule.now).scope state.now }
+    requires same { work.old ≡ state.now }
     ensures { IfOk result (λ atom. atom ≡ given (R.face rule.now) state.now (R.face rule.now).scope) }
 {
     for place in 0..rule.scope_len() {
-        let atom = given_on(rule, state, rule.scope_at(place))?;
+        let atom = given_on(rule, state, work, rule.scope_at(place))?;
         if atom.is_some() {
             return Ok(atom);
         }
@@ -55,71 +58,155 @@ fn given<R: Test>(rule: &R, state: &State) -> Result<Option<Atom>, Memory>
 }
 
 /// A lower bound, else an upper bound, else a hole.
-fn given_on<R: Test>(rule: &R, state: &State, var: VarId) -> Result<Option<Atom>, Memory>
+fn given_on<R: Test>(
+    rule: &R,
+    state: &State,
+    work: &mut State,
+    var: VarId,
+) -> Result<Option<Atom>, Memory>
     requires covers { Covers (R.face rule.now).scope state.now }
     requires var { var < length state.now }
-    ensures { IfOk result (λ atom. atom ≡ given_on (R.face rule.now) state.now var) }
+    requires same { work.old ≡ state.now }
+    ensures given { IfOk result (λ atom. atom ≡ given_on (R.face rule.now) state.now var) }
+    ensures same { OnOk result (work.new ≡ state.now) }
 {
-    let lower = new_lower(rule, state, var)?;
+    let lower = new_lower(rule, state, work, var)?;
     if lower.is_some() {
         return Ok(lower);
     }
-    let upper = new_upper(rule, state, var)?;
+    let upper = new_upper(rule, state, work, var)?;
     if upper.is_some() {
         return Ok(upper);
     }
-    new_hole(rule, state, var)
+    new_hole(rule, state, work, var)
 }
 
-/// The greatest new lower bound that follows: from the greatest value down.
-fn new_lower<R: Test>(rule: &R, state: &State, var: VarId) -> Result<Option<Atom>, Memory>
+/// The greatest new lower bound that follows.
+fn new_lower<R: Test>(
+    rule: &R,
+    state: &State,
+    work: &mut State,
+    var: VarId,
+) -> Result<Option<Atom>, Memory>
     requires covers { Covers (R.face rule.now).scope state.now }
     requires var { var < length state.now }
-    ensures { IfOk result (λ atom. atom ≡ new_lower (R.face rule.now) state.now var) }
+    requires same { work.old ≡ state.now }
+    ensures lower { IfOk result (λ atom. atom ≡ new_lower (R.face rule.now) state.now var) }
+    ensures same { OnOk result (work.new ≡ state.now) }
 {
     let numbers = state.set(var).values()?;
     let values = numbers.as_slice();
-    let count = values.len();
-    for place in 0..count {
-        let atom = Atom::small(var, Op::Ge, values[count - 1 - place]);
-        let gives = gives(rule, state, atom)?;
-        if gives {
-            return Ok(Some(atom));
-        }
+    let place = last_lower(rule, state, work, var, values)?;
+    if place == 0 {
+        return Ok(None);
     }
-    Ok(None)
+    Ok(Some(Atom::small(var, Op::Ge, values[place])))
 }
 
-/// The least new upper bound that follows: from the least value up.
-fn new_upper<R: Test>(rule: &R, state: &State, var: VarId) -> Result<Option<Atom>, Memory>
+/// The last place whose value is a new lower bound that follows; 0 where there is none.
+fn last_lower<R: Test>(
+    rule: &R,
+    state: &State,
+    work: &mut State,
+    var: VarId,
+    numbers: &[i64],
+) -> Result<usize, Memory>
     requires covers { Covers (R.face rule.now).scope state.now }
     requires var { var < length state.now }
-    ensures { IfOk result (λ atom. atom ≡ new_upper (R.face rule.now) state.now var) }
+    requires same { work.old ≡ state.now }
+    requires numbers { numbers.now ≡ values state.now var }
+    requires domain { IsDomain numbers.now }
+    ensures place { IfOk result (λ place. IsLastLower (R.face rule.now) state.now var numbers.now place) }
+    ensures same { OnOk result (work.new ≡ state.now) }
+{
+    let mut low = 0;
+    let mut high = numbers.len();
+    while low + 1 < high {
+        let middle = low + (high - low) / 2;
+        let atom = Atom::small(var, Op::Ge, numbers[middle]);
+        let given = gives(rule, state, work, atom)?;
+        if given {
+            low = middle;
+        } else {
+            high = middle;
+        }
+    }
+    Ok(low)
+}
+
+/// The least new upper bound that follows.
+fn new_upper<R: Test>(
+    rule: &R,
+    state: &State,
+    work: &mut State,
+    var: VarId,
+) -> Result<Option<Atom>, Memory>
+    requires covers { Covers (R.face rule.now).scope state.now }
+    requires var { var < length state.now }
+    requires same { work.old ≡ state.now }
+    ensures upper { IfOk result (λ atom. atom ≡ new_upper (R.face rule.now) state.now var) }
+    ensures same { OnOk result (work.new ≡ state.now) }
 {
     let numbers = state.set(var).values()?;
     let values = numbers.as_slice();
-    for place in 0..values.len() {
-        let atom = Atom::small(var, Op::Le, values[place]);
-        let gives = gives(rule, state, atom)?;
-        if gives {
-            return Ok(Some(atom));
+    let place = first_upper(rule, state, work, var, values)?;
+    let last = values.len().saturating_sub(1);
+    if place >= last {
+        return Ok(None);
+    }
+    Ok(Some(Atom::small(var, Op::Le, values[place])))
+}
+
+/// The first place whose value is a new upper bound that follows; the last of all where there is none.
+fn first_upper<R: Test>(
+    rule: &R,
+    state: &State,
+    work: &mut State,
+    var: VarId,
+    numbers: &[i64],
+) -> Result<usize, Memory>
+    requires covers { Covers (R.face rule.now).scope state.now }
+    requires var { var < length state.now }
+    requires same { work.old ≡ state.now }
+    requires numbers { numbers.now ≡ values state.now var }
+    requires domain { IsDomain numbers.now }
+    ensures place { IfOk result (λ place. IsFirstUpper (R.face rule.now) state.now var numbers.now place) }
+    ensures same { OnOk result (work.new ≡ state.now) }
+{
+    let mut low = 0;
+    let mut high = numbers.len().saturating_sub(1);
+    while low < high {
+        let middle = low + (high - low) / 2;
+        let atom = Atom::small(var, Op::Le, numbers[middle]);
+        let given = gives(rule, state, work, atom)?;
+        if given {
+            high = middle;
+        } else {
+            low = middle + 1;
         }
     }
-    Ok(None)
+    Ok(high)
 }
 
 /// The least value that is taken out, among the part's points.
-fn new_hole<R: Test>(rule: &R, state: &State, var: VarId) -> Result<Option<Atom>, Memory>
+fn new_hole<R: Test>(
+    rule: &R,
+    state: &State,
+    work: &mut State,
+    var: VarId,
+) -> Result<Option<Atom>, Memory>
     requires covers { Covers (R.face rule.now).scope state.now }
     requires var { var < length state.now }
-    ensures { IfOk result (λ atom. atom ≡ new_hole (R.face rule.now) state.now var) }
+    requires same { work.old ≡ state.now }
+    ensures hole { IfOk result (λ atom. atom ≡ new_hole (R.face rule.now) state.now var) }
+    ensures same { OnOk result (work.new ≡ state.now) }
 {
     let numbers = state.set(var).values()?;
     let values = numbers.as_slice();
     for place in 0..values.len() {
         let value = values[place];
         let atom = Atom::small(var, Op::Ne, value);
-        let takes = takes_out(rule, state, var, value)?;
+        let takes = takes_out(rule, state, work, var, value)?;
         if takes {
             return Ok(Some(atom));
         }
@@ -128,29 +215,48 @@ fn new_hole<R: Test>(rule: &R, state: &State, var: VarId) -> Result<Option<Atom>
 }
 
 /// Whether the value is a point of the part, and that it is another follows and is new.
-fn takes_out<R: Test>(rule: &R, state: &State, var: VarId, value: i64) -> Result<bool, Memory>
+fn takes_out<R: Test>(
+    rule: &R,
+    state: &State,
+    work: &mut State,
+    var: VarId,
+    value: i64,
+) -> Result<bool, Memory>
     requires covers { Covers (R.face rule.now).scope state.now }
     requires var { var < length state.now }
+    requires same { work.old ≡ state.now }
     requires small { IsSmall value }
-    ensures { IfOk result (λ takes. takes ≡ ((R.face rule.now).point var value && gives (R.face rule.now) state.now (other_than var value))) }
+    ensures takes { IfOk result (λ takes. takes ≡ ((R.face rule.now).point var value && gives (R.face rule.now) state.now (other_than var value))) }
+    ensures same { OnOk result (work.new ≡ state.now) }
 {
     if rule.is_point(var, value) {
-        gives(rule, state, Atom::small(var, Op::Ne, value))
+        gives(rule, state, work, Atom::small(var, Op::Ne, value))
     } else {
         Ok(false)
     }
 }
 
-/// Whether the atom is new and follows: the state does not entail it, and the part clashes where it fails.
-fn gives<R: Test>(rule: &R, state: &State, atom: Atom) -> Result<bool, Memory>
+/// Whether the atom is new and follows: the state does not entail it, and the part clashes where it
+/// fails. The working copy is the state again when it is known.
+fn gives<R: Test>(
+    rule: &R,
+    state: &State,
+    work: &mut State,
+    atom: Atom,
+) -> Result<bool, Memory>
     requires covers { Covers (R.face rule.now).scope state.now }
     requires var { atom.var < length state.now }
-    ensures { IfOk result (λ answer. answer ≡ gives (R.face rule.now) state.now atom) }
+    requires same { work.old ≡ state.now }
+    ensures answer { IfOk result (λ answer. answer ≡ gives (R.face rule.now) state.now atom) }
+    ensures same { OnOk result (work.new ≡ state.now) }
 {
     if state.entails(atom) {
         return Ok(false);
     }
-    let mut without = state.copy()?;
-    without.exclude(atom.negated())?;
-    rule.clash(&without)
+    let mut set = state.set(atom.var()).copy()?;
+    set.exclude(atom.negated())?;
+    let old = work.replace(atom.var(), set);
+    let clash = rule.clash(work)?;
+    work.replace(atom.var(), old);
+    Ok(clash)
 }

@@ -1,0 +1,13 @@
+use Rattle.std.proofs.Common.{◌≡◌, ◌-◌}
+use Rattle.dp_domain.proofs.BisectSteps.{IsUpperBracket}
+use Rattle.dp_domain.proofs.turn.first_upper.Given as goal
+
+-- the place is between the two, and the working copy is the state
+abbrev pub invariant-loop-low : goal.invariant-loop-low
+invariant-loop-low g l = record {
+  bracket : IsUpperBracket (g.R.Test.face l.rule) l.state l.var l.numbers l.low l.high;
+  same : l.work ≡ l.state;
+}
+
+abbrev pub decreases-loop-low : goal.decreases-loop-low
+decreases-loop-low g l = l.high - l.low
