@@ -1,5 +1,5 @@
 -- Steps of the bisection for a bound: the test is monotone, so one value decides for all on one side.
-use Rattle.std.proofs.Common.{◌≡◌, ℕ, zero, suc, ◌+◌, ◌-◌, ◌<◌, ◌≤◌, true, false, ◌⊎◌, List, [], ◌∷◌, length, get_or, ℤ, pos, ◌+ℤ◌, ◌-ℤ◌, ◌≤ℤ◌, ◌<ℤ◌, Some, None, refl, sym, ◌∙◌, ap, subst, inl, inr, arith}
+use Rattle.std.proofs.Common.{◌≡◌, ℕ, zero, suc, ◌+◌, ◌-◌, ◌<◌, ◌≤◌, true, false, ◌⊎◌, List, length, get_or, ℤ, pos, ◌+ℤ◌, ◌-ℤ◌, ◌≤ℤ◌, ◌<ℤ◌, Some, None, refl, sym, ◌∙◌, ap, subst, inl, inr, arith}
 use mir.Syntax.{w64}
 use mir.Val.{of_z, to_z}
 use Rattle.std.specs.Prelude.{◌/◌}
@@ -9,7 +9,7 @@ use Rattle.dp_base.specs.Lists.{Among}
 use Rattle.dp_base.proofs.Lists.{Among-filter_all, Among-get_or, Each-get_or}
 use Rattle.dp_domain.specs.Atoms.{Atomic, negated}
 use Rattle.dp_domain.specs.Sets.{IsAscending, IsDomain, IsSmall}
-use Rattle.dp_domain.specs.States.{Domains, IsWithin, cut, entails, values}
+use Rattle.dp_domain.specs.States.{Domains, cut, entails, values}
 use Rattle.dp_domain.specs.Faces.{Face, Covers, IsLawful}
 use Rattle.dp_domain.specs.Turns.{IsFirstUpper, IsLastLower, at_least, at_most, gives, new_lower, new_upper}
 use Rattle.dp_domain.proofs.AtomLaws.{le-from_test, test-from_le, test-from_lt}
@@ -90,7 +90,7 @@ lower_less f d x xs low high middle v a l c q s b h k e g t =
       within = omega arith;
       given = b.given;
       none = λ j i m. false_from_ne_true (gives f d (at_least x (at xs j))) (λ y. both_ways (gives f d (at_least x (at xs middle))) n
-      (lower_down f d x (at xs 0) (at xs middle) (at xs j) l c (value_at d x xs 0 q (omega arith)) (ascending-places xs s.ascending 0 middle (pos 0) (omega arith) (omega arith)) (places_le xs s.ascending middle j (pos 0) i m) y));
+          (lower_down f d x (at xs 0) (at xs middle) (at xs j) l c (value_at d x xs 0 q (omega arith)) (ascending-places xs s.ascending 0 middle (pos 0) (omega arith) (omega arith)) (places_le xs s.ascending middle j (pos 0) i m) y));
     }
 
 pub lower_done : (f : Face) (d : Domains) (x : ℕ) (xs : List ℤ) (low high : ℕ) → IsLowerBracket f d x xs low high → high ≤ low + 1 → IsLastLower f d x xs low
@@ -129,7 +129,7 @@ upper_more f d x xs low high middle v a l c q s b h k e g t =
       within = b.within;
       given = b.given;
       none = λ j o m. false_from_ne_true (gives f d (at_most x (at xs j))) (λ y. both_ways (gives f d (at_most x (at xs middle))) n
-      (upper_up f d x (at xs (middle + 1)) (at xs middle) (at xs j) l c (value_at d x xs (middle + 1) q i) (ascending-places xs s.ascending middle (middle + 1) (pos 0) (omega arith) i) (places_le xs s.ascending j middle (pos 0) (omega arith) (omega arith)) y));
+          (upper_up f d x (at xs (middle + 1)) (at xs middle) (at xs j) l c (value_at d x xs (middle + 1) q i) (ascending-places xs s.ascending middle (middle + 1) (pos 0) (omega arith) i) (places_le xs s.ascending j middle (pos 0) (omega arith) (omega arith)) y));
     }
 
 pub upper_done : (f : Face) (d : Domains) (x : ℕ) (xs : List ℤ) (low high : ℕ) → IsUpperBracket f d x xs low high → high ≤ low → IsFirstUpper f d x xs high
@@ -156,7 +156,6 @@ lower_within f d x i xs r n = by r.given
 -- a value as the code passes it is small
 pub small_passed : (xs : List ℤ) (i : ℕ) → IsDomain xs → i < length xs → IsSmall (to_z w64 (of_z w64 (get_or xs i (pos 0))))
 small_passed xs i s h = subst IsSmall (sym (passed xs i s h)) (Each-get_or IsSmall xs i (pos 0) h s.small)
-
 
 pub lower_at : (f : Face) (d : Domains) (x i : ℕ) (xs : List ℤ) (v : ℤ) (a : Atomic) → xs ≡ values d x → IsDomain xs → IsLastLower f d x xs i → 0 < i → a ≡ at_least x v → v ≡ get_or xs i (pos 0) → Some a ≡ new_lower f d x
 lower_at f d x i xs v a e s r n g h = by r.given

@@ -238,12 +238,7 @@ fn takes_out<R: Test>(
 
 /// Whether the atom is new and follows: the state does not entail it, and the part clashes where it
 /// fails. The working copy is the state again when it is known.
-fn gives<R: Test>(
-    rule: &R,
-    state: &State,
-    work: &mut State,
-    atom: Atom,
-) -> Result<bool, Memory>
+fn gives<R: Test>(rule: &R, state: &State, work: &mut State, atom: Atom) -> Result<bool, Memory>
     requires covers { Covers (R.face rule.now).scope state.now }
     requires var { atom.var < length state.now }
     requires same { work.old ≡ state.now }

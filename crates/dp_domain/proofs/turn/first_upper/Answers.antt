@@ -12,6 +12,6 @@ loop-low-preserved g c =
     let within = inside c.loop-low.low c.loop-low.high (length c.args.numbers.now) (c.loop-low.low + (c.loop-low.high - c.loop-low.low) / 2) before c.loop-low.invariant.bracket.within in
     record {
       bracket = upper_more (g.R.Test.face c.args.rule.now) c.args.state.now c.args.var c.args.numbers.now c.loop-low.low c.loop-low.high (c.loop-low.low + (c.loop-low.high - c.loop-low.low) / 2) _ _ (g.met.R.Test.lawful c.args.rule.now) c.requires.covers c.requires.numbers c.requires.domain
-      c.loop-low.invariant.bracket after before c.small-atom.ensures (passed c.args.numbers.now (c.loop-low.low + (c.loop-low.high - c.loop-low.low) / 2) c.requires.domain (omega arith)) (sym c.in_ok-given.ensures.answer ∙ c.if-given.false);
+          c.loop-low.invariant.bracket after before c.small-atom.ensures (passed c.args.numbers.now (c.loop-low.low + (c.loop-low.high - c.loop-low.low) / 2) c.requires.domain (omega arith)) (sym c.in_ok-given.ensures.answer ∙ c.if-given.false);
       same = c.in_ok-given.ensures.same;
     }
