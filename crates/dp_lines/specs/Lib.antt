@@ -11,6 +11,7 @@ pub mod Parts
 pub mod RawLines
 pub mod Readers
 pub mod Runs
+pub mod SoFar
 pub mod Spelling
 pub mod Standing
 pub mod Words
