@@ -43,10 +43,14 @@ closed s = record s { ended = true }
 
 -- ---- what a reader stands for
 
--- The text that no line has taken yet. The bytes that are not held stand behind as many as a line may have, and are
--- written as blanks: a line with them is refused by its length alone.
+-- What these bytes stand for, where others were counted behind as many as a line may have. Those are written as blanks: a
+-- line with them is refused by its length alone.
+abbrev pub stands_for : ℕ → ℕ → List ℕ → List ℕ
+stands_for limit beyond held = take limit held ++ (replicate beyond 32 ++ drop limit held)
+
+-- the text that no line has taken yet
 abbrev pub standing : State → List ℕ
-standing s = take s.limits.line s.held ++ (replicate s.beyond 32 ++ drop s.limits.line s.held)
+standing s = stands_for s.limits.line s.beyond s.held
 
 -- these bytes begin with as many as a line may have, and its line feed is none of them
 pub record IsFull (limit : ℕ) (held : List ℕ) : Type 0 where
