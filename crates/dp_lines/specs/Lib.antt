@@ -7,10 +7,12 @@ pub mod Kept
 pub mod Lenient
 pub mod Lines
 pub mod Logs
+pub mod Overlong
 pub mod Parts
 pub mod RawLines
 pub mod Readers
 pub mod Runs
+pub mod SoFar
 pub mod Spelling
 pub mod Standing
 pub mod Words
