@@ -1,2 +1,4 @@
 pub mod AtomSteps
+pub mod ClauseLaws
+pub mod ClauseReasons
 pub mod OrderSteps
