@@ -1,16 +1,19 @@
 -- Parts that clash exactly where no variable of the scope has a good value left: what they give.
-use Rattle.std.proofs.Common.{◌≡◌, ℕ, ◌<◌, Bool, true, false, cond, ◌&&◌, List, [], ◌∷◌, length, set, ℤ, Option, Some, None, option_map, refl, sym, ◌∙◌, ap, subst, inl, inr}
+use Rattle.std.proofs.Common.{◌≡◌, ℕ, ◌<◌, Bool, true, false, cond, not, ◌&&◌, List, [], ◌∷◌, length, set, ℤ, Option, Some, None, option_map, refl, sym, ◌∙◌, ap, subst, inl, inr}
 use Rattle.std.specs.List.{filter}
 use Rattle.std.proofs.lemmas.Bool.{and_right, both_ways, cases_eq, false_from_ne_true}
 use Rattle.std.proofs.lemmas.List.{get_or-set_other, get_or-set_same, length-set}
 use Rattle.dp_base.specs.Lists.{Among}
+use Rattle.dp_base.proofs.Lists.{Among-filter_all, Among-filter_only}
 use Rattle.dp_domain.specs.Atoms.{Atomic, negated}
 use Rattle.dp_domain.specs.declared.found.Found.TheVariants.{Atom, Clash}
 use Rattle.dp_domain.specs.Faces.{Face}
-use Rattle.dp_domain.specs.Sets.{greatest, least}
+use Rattle.dp_domain.specs.Sets.{IsDomain, greatest, is_among, least}
 use Rattle.dp_domain.specs.States.{Domains, cut, entails, is_dead, values}
-use Rattle.dp_domain.specs.Turns.{at_least, at_most, given, given_on, gives, new_hole, new_upper, or_else, other_than, turn_of}
+use Rattle.dp_domain.specs.Supports.{IsSupport, bound_by, lower_by, upper_by}
+use Rattle.dp_domain.specs.Turns.{at_least, at_most, given, given_on, gives, new_hole, new_lower, new_upper, or_else, other_than, turn_of}
 use Rattle.dp_domain.proofs.AtomLaws.{negated-negated}
+use Rattle.dp_domain.proofs.SetLaws.{IsDomain-filter}
 use Rattle.dp_domain.proofs.StateLaws.{alive-from, alive-value, entails-from_dead_cut, values-cut_other}
 use Rattle.dp_domain.proofs.TurnLaws.{gives-parts}
 
@@ -111,3 +114,48 @@ clause-several f good d x y c l s g t h n =
       | inl e ↦ others_none f good d y z c l t h (λ q. n (e ∙ sym q))
       | inr m ↦ others_none f good d x z c l s g m
     ]))
+
+-- ---- supported values
+
+set_clashes : (f : Face) (good : ℕ → ℤ → Bool) (d : Domains) (x : ℕ) (p : ℤ → Bool) → IsClause f good → is_dead (set d x (filter p (values d x))) ≡ false → x < length d → ((y : ℕ) → Among y f.scope → (y ≡ x → ⊥) → HasNone good d y)
+    → ((w : ℤ) → Among w (values d x) → p w ≡ true → ¬ (Among w (filter (good x) (values d x)))) → f.test (set d x (filter p (values d x))) ≡ true
+set_clashes f good d x p c l i none k =
+    c.clash (set d x (filter p (values d x))) l (λ y r w m. elim (cases_eq y x) [
+      | inl q ↦
+        let n = Among-filter_only p (values d x) w (subst (λ zs. Among w zs) (get_or-set_same d x (filter p (values d x)) [] i) (subst (λ z. Among w (values (set d x (filter p (values d x))) z)) q m)) in
+        ap (λ z. good z w) q ∙ false_from_ne_true (good x w) (λ t. k w n.0 n.1 (Among-filter_all (good x) (values d x) w n.0 t))
+      | inr n ↦ none y r n w (subst (λ zs. Among w zs) (get_or-set_other d x y (filter p (values d x)) [] n) m)
+    ])
+
+set_safe : (f : Face) (good : ℕ → ℤ → Bool) (d : Domains) (x : ℕ) (p : ℤ → Bool) → IsClause f good → is_dead (set d x (filter p (values d x))) ≡ false → x < length d → Among x f.scope
+    → f.test (set d x (filter p (values d x))) ≡ true → (w : ℤ) → Among w (values d x) → p w ≡ true → ¬ (Among w (filter (good x) (values d x)))
+set_safe f good d x p c l i s k w m q g =
+    both_ways (f.test (set d x (filter p (values d x))))
+    (c.safe (set d x (filter p (values d x))) l x s (
+      w,
+      subst (λ zs. Among w zs) (sym (get_or-set_same d x (filter p (values d x)) [] i)) (Among-filter_all p (values d x) w m q),
+      (Among-filter_only (good x) (values d x) w g).1,
+    ))
+    k
+
+-- where no other variable has a good value, the good values are the supported ones
+pub clause-support : (f : Face) (good : ℕ → ℤ → Bool) (d : Domains) (x : ℕ) → IsClause f good → is_dead d ≡ false → x < length d → Among x f.scope → IsDomain (values d x) → ((y : ℕ) → Among y f.scope → (y ≡ x → ⊥) → HasNone good d y) → IsSupport f d x (filter (good x) (values d x))
+clause-support f good d x c l i s o none = record {
+  domain = IsDomain-filter (good x) (values d x) o;
+  within = λ v h. (Among-filter_only (good x) (values d x) v h).0;
+  clash = λ p v h t.
+  let alive = alive-set d x (filter p (values d x)) v l i (Among-filter_all p (values d x) v h t) in
+  (set_safe f good d x p c alive i s, set_clashes f good d x p c alive i none);
+}
+
+either_else : {A : Type 0} (a b c : Option A) → or_else a (or_else b c) ≡ or_else (or_else a b) c
+either_else None b c = refl
+either_else (Some v) b c = refl
+
+-- what is given on a variable, from its parts
+pub given_on-parts : (f : Face) (d : Domains) (x : ℕ) (good : List ℤ) (hole : Option Atomic) → new_lower f d x ≡ lower_by (values d x) good x → new_upper f d x ≡ upper_by (values d x) good x → new_hole f d x ≡ hole → given_on f d x ≡ or_else (bound_by (values d x) good x) hole
+given_on-parts f d x good hole e g h =
+    ap (λ o. or_else o (or_else (new_upper f d x) (new_hole f d x))) e
+    ∙ ap (λ o. or_else (lower_by (values d x) good x) (or_else o (new_hole f d x))) g
+    ∙ ap (λ o. or_else (lower_by (values d x) good x) (or_else (upper_by (values d x) good x) o)) h
+    ∙ either_else (lower_by (values d x) good x) (upper_by (values d x) good x) hole

@@ -2,12 +2,13 @@
 use Rattle.std.proofs.Common.{◌≡◌, ℕ, ◌<◌, Bool, true, false, cond, not, ◌&&◌, List, [], ◌∷◌, ◌++◌, length, map, ℤ, ◌<ℤ◌, int_le, int_lt, Option, Some, None, refl, sym, ◌∙◌, ap, subst, inl, inr, arith}
 use Rattle.std.specs.List.{filter, flat_map, list_all}
 use Rattle.std.proofs.lemmas.Int.{ints}
+use Rattle.std.proofs.lemmas.Bool.Decides.{Decides-eqb}
 use Rattle.std.proofs.lemmas.Bool.{and_parts, both_ways, cases_Bool, false_from_ne_true, not-false}
 use Rattle.std.proofs.lemmas.List.{append_assoc, append-nil}
 use Rattle.std.proofs.lemmas.List.Elements.{filter-append}
 use Rattle.dp_base.specs.Lists.{Among, Climbs, Each}
-use Rattle.dp_base.proofs.Lists.{Among-append_cases, Among-append_left, Among-append_right, Among-filter_only, Each-among, Each-append, Each-from_among, list_all-at, list_all-fails}
-use Rattle.dp_domain.specs.Atoms.{Atomic, meets}
+use Rattle.dp_base.proofs.Lists.{Among-append_cases, Among-append_left, Among-append_right, Among-filter_all, Among-filter_only, Each-among, Each-append, Each-from_among, list_all-at, list_all-fails}
+use Rattle.dp_domain.specs.Atoms.{Atomic, meets, negated}
 use Rattle.dp_domain.specs.Explanations.{IsOpen, bound_atom, described, description, explanation, failing, has, is_hole, is_less, needed, suffices}
 use Rattle.dp_domain.specs.Faces.{Covers, Face}
 use Rattle.dp_domain.specs.Sets.{IsAscending, IsDomain, greatest, least}
@@ -19,6 +20,7 @@ use Rattle.dp_domain.proofs.ExplanationLaws.{Among-cut_all_from, Among-flat_map,
 use Rattle.dp_domain.proofs.ScopeLaws.{Covers-at}
 use Rattle.dp_domain.proofs.SetLaws.{IsAscending-filter, greatest-bound, least-among}
 use Rattle.dp_domain.proofs.StateLaws.{IsWithin-cut_all, IsWithin-trans, alive-within, entails-at, entails-cut_all, entails-from, entails-within}
+use Rattle.dp_rule_clause.specs.Clauses.{AreDomains, failed_by, lost_by, reasons_on, where_failing}
 use Rattle.dp_rule_clause.proofs.ClauseLaws.{IsClause, alive-cut}
 
 -- ---- atoms that take out different values
@@ -133,10 +135,6 @@ described_parted i n x s =
       | inl m ↦ apart_lower i n x a b m k
       | inr m ↦ apart_upper i n x a b m k
     ])
-
--- the variables' initial values are domains
-abbrev pub AreDomains : Domains → List ℕ → Type 0
-AreDomains d scope = Each (λ x. IsDomain (values d x)) scope
 
 apart_vars : (x : ℕ) (xs : List ℕ) → Each (λ y. x < y) xs → (y : ℕ) → Among y xs → x ≡ y → ⊥
 apart_vars x xs h y k e = let l : x < y = Each-among (λ z. x < z) xs h y k in omega arith
@@ -345,3 +343,56 @@ pub explanation-used : (f : Face) (good : ℕ → ℤ → Bool) (initial now : D
     → explanation f initial now target ≡ filter (is_used lost) (description initial now f.scope)
 explanation-used f good initial now target lost c r up s cov l p o t =
     needed_used f good initial now target lost c r l p o [] (description initial now f.scope) (at_start f good initial now target lost c r up s cov l p o t)
+
+-- ---- variable by variable
+
+filter_same : (p q : Atomic → Bool) (xs : List Atomic) → ((a : Atomic) → Among a xs → p a ≡ q a) → filter p xs ≡ filter q xs
+filter_same p q [] h = refl
+filter_same p q (x ∷ xs) h = ap (λ b. cond b (x ∷ filter p xs) (filter p xs)) (h x (inl refl)) ∙ ap (λ ys. cond (q x) (x ∷ ys) ys) (filter_same p q xs (λ a k. h a (inr k)))
+
+used_on : (initial now : Domains) (lost : ℕ → List ℤ) (x : ℕ) → filter (is_used lost) (described (values initial x) (values now x) x) ≡ failed_by (lost x) (described (values initial x) (values now x) x)
+used_on initial now lost x =
+    filter_same (is_used lost) (λ a. not (list_all (meets a) (lost x))) (described (values initial x) (values now x) x)
+    (λ a h. ap (λ (y : ℕ). not (list_all (meets a) (lost y))) (described-holds (values initial x) (values now x) x a h).0)
+
+used_of : (initial now : Domains) (lost : ℕ → List ℤ) (scope : List ℕ) → filter (is_used lost) (description initial now scope) ≡ flat_map (λ x. failed_by (lost x) (described (values initial x) (values now x) x)) scope
+used_of initial now lost [] = refl
+used_of initial now lost (x ∷ xs) =
+    filter-append (is_used lost) (described (values initial x) (values now x) x) (description initial now xs)
+    ∙ ap (λ ys. ys ++ filter (is_used lost) (description initial now xs)) (used_on initial now lost x)
+    ∙ ap (λ ys. failed_by (lost x) (described (values initial x) (values now x) x) ++ ys) (used_of initial now lost xs)
+
+failing_only : (target : Option Atomic) (x : ℕ) (vs : List ℤ) (v : ℤ) → Among v (where_failing target x vs) → Among v vs × ((b : Atomic) → Among b (failing target) → x ≡ b.var → meets b v ≡ true)
+failing_only None x vs v h = (h, λ b k. absurd k)
+failing_only (Some a) x vs v h = failing_only_at a x vs v (a.var == x) refl h
+  where
+    failing_only_at : (a : Atomic) (x : ℕ) (vs : List ℤ) (v : ℤ) (t : Bool) → (a.var == x) ≡ t → Among v (cond t (filter (meets (negated a)) vs) vs) → Among v vs × ((b : Atomic) → Among b (failing (Some a)) → x ≡ b.var → meets b v ≡ true)
+    failing_only_at a x vs v true e h =
+        let r = Among-filter_only (meets (negated a)) vs v h in
+        (r.0, λ b k q. elim k [ inl g ↦ subst (λ c. meets c v ≡ true) (sym g) r.1 | inr n ↦ absurd n ])
+    failing_only_at a x vs v false e h =
+        (h, λ b k q. elim k [ inl g ↦ absurd (both_ways (a.var == x) e ((Decides-eqb a.var x).1 (sym (q ∙ ap (λ (c : Atomic). c.var) g)))) | inr n ↦ absurd n ])
+
+failing_all : (target : Option Atomic) (x : ℕ) (vs : List ℤ) (v : ℤ) → Among v vs → ((b : Atomic) → Among b (failing target) → x ≡ b.var → meets b v ≡ true) → Among v (where_failing target x vs)
+failing_all None x vs v h k = h
+failing_all (Some a) x vs v h k = failing_all_at a x vs v (a.var == x) refl h k
+  where
+    failing_all_at : (a : Atomic) (x : ℕ) (vs : List ℤ) (v : ℤ) (t : Bool) → (a.var == x) ≡ t → Among v vs → ((b : Atomic) → Among b (failing (Some a)) → x ≡ b.var → meets b v ≡ true) → Among v (cond t (filter (meets (negated a)) vs) vs)
+    failing_all_at a x vs v true e h k = Among-filter_all (meets (negated a)) vs v h (k (negated a) (inl refl) (sym ((Decides-eqb a.var x).0 e)))
+    failing_all_at a x vs v false e h k = h
+
+lost_of : (good : ℕ → ℤ → Bool) (initial : Domains) (target : Option Atomic) (scope : List ℕ) → AreLost good initial target scope (lost_by good target initial)
+lost_of good initial target scope = record {
+  only = λ x s v h.
+  let r = Among-filter_only (good x) (where_failing target x (values initial x)) v h in
+  let k = failing_only target x (values initial x) v r.0 in
+  (k.0, r.1, k.1);
+  all = λ x s v h g k. Among-filter_all (good x) (where_failing target x (values initial x)) v (failing_all target x (values initial x) v h k) g;
+}
+
+-- the explanation, variable by variable
+pub explanation-reasons : (f : Face) (good : ℕ → ℤ → Bool) (initial now : Domains) (target : Option Atomic) → IsClause f good → Climbs f.scope → AreDomains initial f.scope → Covers f.scope now → is_dead now ≡ false → IsWithin now initial → IsOpen now target → suffices f now target [] ≡ true
+    → explanation f initial now target ≡ flat_map (reasons_on good target initial now) f.scope
+explanation-reasons f good initial now target c up s cov l p o t =
+    explanation-used f good initial now target (lost_by good target initial) c (lost_of good initial target f.scope) up s cov l p o t
+    ∙ used_of initial now (lost_by good target initial) f.scope

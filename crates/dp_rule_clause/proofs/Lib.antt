@@ -1,4 +1,5 @@
 pub mod AtomSteps
 pub mod ClauseLaws
 pub mod ClauseReasons
+pub mod NogoodSteps
 pub mod OrderSteps

@@ -3,6 +3,8 @@
 
 mod atoms;
 mod nogood;
+mod reasons;
+mod turns;
 mod within;
 
 pub use dp_domain::{Atom, Dom, Found, Memory, Rule, State, Steps, Test, VarId};
