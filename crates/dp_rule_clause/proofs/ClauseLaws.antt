@@ -13,7 +13,6 @@ use Rattle.dp_domain.specs.States.{Domains, cut, entails, is_dead, values}
 use Rattle.dp_domain.specs.Supports.{IsSupport, bound_by, lower_by, upper_by}
 use Rattle.dp_domain.specs.Turns.{at_least, at_most, given, given_on, gives, new_hole, new_lower, new_upper, or_else, other_than, turn_of}
 use Rattle.dp_domain.proofs.AtomLaws.{negated-negated}
-use Rattle.dp_domain.proofs.SetLaws.{IsDomain-filter}
 use Rattle.dp_domain.proofs.StateLaws.{alive-from, alive-value, entails-from_dead_cut, values-cut_other}
 use Rattle.dp_domain.proofs.TurnLaws.{gives-parts}
 
@@ -139,9 +138,9 @@ set_safe f good d x p c l i s k w m q g =
     k
 
 -- where no other variable has a good value, the good values are the supported ones
-pub clause-support : (f : Face) (good : ℕ → ℤ → Bool) (d : Domains) (x : ℕ) → IsClause f good → is_dead d ≡ false → x < length d → Among x f.scope → IsDomain (values d x) → ((y : ℕ) → Among y f.scope → (y ≡ x → ⊥) → HasNone good d y) → IsSupport f d x (filter (good x) (values d x))
+pub clause-support : (f : Face) (good : ℕ → ℤ → Bool) (d : Domains) (x : ℕ) → IsClause f good → is_dead d ≡ false → x < length d → Among x f.scope → IsDomain (filter (good x) (values d x)) → ((y : ℕ) → Among y f.scope → (y ≡ x → ⊥) → HasNone good d y) → IsSupport f d x (filter (good x) (values d x))
 clause-support f good d x c l i s o none = record {
-  domain = IsDomain-filter (good x) (values d x) o;
+  domain = o;
   within = λ v h. (Among-filter_only (good x) (values d x) v h).0;
   clash = λ p v h t.
   let alive = alive-set d x (filter p (values d x)) v l i (Among-filter_all p (values d x) v h t) in

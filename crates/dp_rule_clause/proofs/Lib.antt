@@ -3,3 +3,4 @@ pub mod ClauseLaws
 pub mod ClauseReasons
 pub mod NogoodSteps
 pub mod OrderSteps
+pub mod RestrictionSteps

@@ -14,16 +14,17 @@ use Rattle.dp_domain.specs.Sets.{IsDomain, is_among, least}
 use Rattle.dp_domain.specs.States.{Domains, entails, entails_all, fails_one, is_dead, values}
 use Rattle.dp_domain.specs.Turns.{other_than, turn_of}
 use Rattle.dp_domain.proofs.AtomLaws.{same-from_tests}
-use Rattle.dp_domain.proofs.SetLaws.{least-is}
+use Rattle.dp_domain.proofs.SetLaws.{IsDomain-filter, least-is}
 use Rattle.dp_domain.proofs.ShareLaws.{is_among-at, is_among-some}
 use Rattle.dp_domain.proofs.StateLaws.{entails-at, entails-fails, entails-from, entails-not}
-use Rattle.dp_rule_clause.specs.Clauses.{open_of, open_on, taken, takes}
+use Rattle.dp_domain.proofs.SupportLaws.{support-parts}
+use Rattle.dp_rule_clause.specs.Clauses.{given_by, open_of, open_on, taken, takes}
 use Rattle.dp_rule_clause.specs.declared.turns.Open.{Open}
 use Rattle.dp_rule_clause.specs.declared.turns.Open.TheVariants.{Nowhere, On, Apart}
 use Rattle.dp_rule_clause.specs.NogoodLaws.{atom_in_scope}
 use Rattle.dp_rule_clause.specs.Nogoods.{face_nogood, point_nogood, same_atom, same_op, scope_of}
 use Rattle.dp_rule_clause.proofs.AtomSteps.{among-has, atoms_covered, atoms_equal, has-among, op_where}
-use Rattle.dp_rule_clause.proofs.ClauseLaws.{HasNone, HasOne, IsClause, clause-clash, clause-one, clause-several, clause-support}
+use Rattle.dp_rule_clause.proofs.ClauseLaws.{HasNone, HasOne, IsClause, clause-clash, clause-one, clause-several, clause-support, given_on-parts}
 
 -- ---- values that fail an atom
 
@@ -223,3 +224,17 @@ taken_by x atoms vs (Some g) s =
 -- the value that is taken out is the least point that is not supported
 pub taken-least : (x : ℕ) (atoms : List Atomic) (vs : List ℤ) → option_map (other_than x) (least (filter (λ v. point_nogood atoms x v && not (is_among v (filter (fails_one x atoms) vs))) vs)) ≡ taken x vs (filter (fails_one x atoms) vs) atoms
 taken-least x atoms vs = taken_by x atoms vs (taken x vs (filter (fails_one x atoms) vs) atoms) (taken_is x vs (filter (fails_one x atoms) vs) atoms)
+
+-- where the atoms that are not entailed are on one variable, the values that fail one give its turn
+pub turn_on : (d : Domains) (atoms : List Atomic) (x : ℕ) → Covers (scope_of atoms) d → is_dead d ≡ false → IsDomain (values d x) → open_of d atoms ≡ On x
+    → turn_of (face_nogood atoms) d ≡ option_map Atom (given_by x atoms (values d x) (filter (fails_one x atoms) (values d x)))
+turn_on d atoms x c l o e =
+    let s = subst (Stands d atoms) e (stands d atoms) in
+    let i : x < length d = open_within d atoms x c e in
+    let m = in_scope d atoms x s.0 in
+    let g = has_one d atoms x s.0 in
+    let support = clause-support (face_nogood atoms) (λ y. fails_one y atoms) d x (nogood-clause atoms) l i m (IsDomain-filter (fails_one x atoms) (values d x) o)
+      (λ y k n. has_none d atoms y (λ a h q. s.1 a h (λ r. n (sym q ∙ r)))) in
+    let parts = support-parts (face_nogood atoms) d x (filter (fails_one x atoms) (values d x)) i l ((nogood-clause atoms).safe d l x m g) support in
+    clause-one (face_nogood atoms) (λ y. fails_one y atoms) d x (nogood-clause atoms) l m g
+    ∙ ap (option_map Atom) (given_on-parts (face_nogood atoms) d x (filter (fails_one x atoms) (values d x)) (taken x (values d x) (filter (fails_one x atoms) (values d x)) atoms) parts.0 parts.1 (parts.2 ∙ taken-least x atoms (values d x)))

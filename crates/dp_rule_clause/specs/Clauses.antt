@@ -4,6 +4,8 @@ use Rattle.std.specs.List.{list_all}
 use Rattle.dp_base.specs.Lists.{Each}
 use Rattle.dp_domain.specs.Atoms.{Atomic, meets, negated}
 use Rattle.dp_domain.specs.declared.atom.Op.TheVariants.{Eq}
+use Rattle.dp_domain.specs.declared.found.Found.{Found}
+use Rattle.dp_domain.specs.declared.found.Found.TheVariants.{Atom}
 use Rattle.dp_domain.specs.Explanations.{described}
 use Rattle.dp_domain.specs.Sets.{IsDomain, is_among}
 use Rattle.dp_domain.specs.States.{Domains, entails, fails_one, values}
@@ -22,6 +24,10 @@ open_on d x (a ∷ atoms) = if (a.var == x) || entails d a then open_on d x atom
 abbrev pub open_of : Domains → List Atomic → Open
 open_of d [] = Nowhere
 open_of d (a ∷ atoms) = if entails d a then open_of d atoms else open_on d a.var atoms
+
+-- the atom that is given, as a turn
+abbrev pub as_turn : Option Atomic → Option Found
+as_turn given = option_map Atom given
 
 -- whether the atom is `==` on the variable, with a value that is not supported
 abbrev pub takes : ℕ → List ℤ → List ℤ → Atomic → Bool

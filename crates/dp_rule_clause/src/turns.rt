@@ -1,13 +1,16 @@
-// The turn of a nogood: where only one variable has values at which an atom fails, it is to have one of these.
+// The turns of nogoods and restrictions: where only one variable has values by which the part is met, it is to have one of these.
 
-ghost use Rattle.std.specs.Prelude.{◌≡◌, ◌<◌, ◌≤◌, IfOk, Some, drop, false, filter, length};
+ghost use Rattle.std.specs.Prelude.{◌≡◌, ◌<◌, ◌≤◌, ◌||◌, ◌==◌, [], ◌∷◌, IfOk, drop, false, filter, length};
 ghost use Rattle.dp_base.specs.Lists.{Each};
+ghost use Rattle.dp_domain.specs.Conditions.{IsApart, with_condition};
 ghost use Rattle.dp_domain.specs.Faces.{Covers};
 ghost use Rattle.dp_domain.specs.Sets.{IsDomain, is_among};
-ghost use Rattle.dp_domain.specs.States.{fails_one, is_dead, values};
+ghost use Rattle.dp_domain.specs.States.{entails, fails_one, is_dead, values};
 ghost use Rattle.dp_domain.specs.Turns.{turn_of};
-ghost use Rattle.dp_rule_clause.specs.Clauses.{given_by, open_of, open_on, taken, takes};
-ghost use Rattle.dp_rule_clause.specs.Nogoods.{face_nogood, scope_of};
+ghost use Rattle.dp_rule_clause.specs.Clauses.{as_turn, given_by, open_of, open_on, taken, takes};
+ghost use Rattle.dp_rule_clause.specs.Nogoods.{face_nogood};
+ghost use Rattle.dp_rule_clause.specs.Nogoods.{scope_of as nogood_scope};
+ghost use Rattle.dp_rule_clause.specs.Restrictions.{face_within, open_condition, scope_of, turn_against, turn_within};
 
 use crate::{Atom, Dom, Found, Memory, State, VarId};
 use dp_domain::{Op, supported_bound};
@@ -22,15 +25,22 @@ pub enum Open {
 
 /// The turn of the nogood of these atoms.
 pub fn nogood_turn(atoms: &[Atom], state: &State) -> Result<Option<Found>, Memory>
-    requires covers { Covers (scope_of atoms.now) state.now }
+    requires covers { Covers (nogood_scope atoms.now) state.now }
     requires alive { is_dead state.now ≡ false }
     ensures { IfOk result (λ turn. turn ≡ turn_of (face_nogood atoms.now) state.now) }
 {
     match open_of(atoms, state) {
         Open::Nowhere => Ok(Some(Found::Clash)),
-        Open::On(var) => Ok(given_on(atoms, state, var)?.map(Found::Atom)),
+        Open::On(var) => Ok(found(given_on(atoms, state, var)?)),
         Open::Apart => Ok(None),
     }
+}
+
+/// The atom that is given, if any, as a turn.
+fn found(given: Option<Atom>) -> Option<Found>
+    ensures { result ≡ as_turn given }
+{
+    given.map(Found::Atom)
 }
 
 /// Where the atoms stand that the state does not entail.
@@ -129,4 +139,66 @@ fn is_among(set: &Dom, number: i64) -> bool
     ensures { result ≡ is_among number set.now }
 {
     set.has(number)
+}
+
+/// The turn of a restriction. Where the condition is absent or entailed the variable is to lie in the
+/// set; where none of its values does, the condition is to fail.
+pub fn restriction_turn(
+    cond: &Option<Atom>,
+    var: VarId,
+    set: &Dom,
+    state: &State,
+) -> Result<Option<Found>, Memory>
+    requires apart { IsApart cond.now (var ∷ []) }
+    requires covers { Covers (scope_of (record { condition = cond.now; var = var; set = set.now })) state.now }
+    requires alive { is_dead state.now ≡ false }
+    ensures { IfOk result (λ turn. turn ≡ turn_of (face_within (record { condition = cond.now; var = var; set = set.now })) state.now) }
+{
+    match open_condition(cond, state) {
+        None => turn_within(var, set, state),
+        Some(atom) => {
+            if state.set(var).shares(set) {
+                Ok(None)
+            } else {
+                turn_against(atom, state)
+            }
+        }
+    }
+}
+
+/// The condition, where it is there and not entailed.
+fn open_condition(cond: &Option<Atom>, state: &State) -> Option<Atom>
+    requires { Covers (with_condition cond.now []) state.now }
+    ensures { result ≡ open_condition state.now cond.now }
+{
+    match cond {
+        Some(atom) if !state.entails(*atom) => Some(*atom),
+        _ => None,
+    }
+}
+
+/// A clash where no value lies in the set, else the bound of those that do.
+fn turn_within(var: VarId, set: &Dom, state: &State) -> Result<Option<Found>, Memory>
+    requires { var < length state.now }
+    ensures turn { IfOk result (λ turn. turn ≡ turn_within var set.now (values state.now var)) }
+    ensures domain { IfOk result (λ turn. IsDomain (filter (λ v. is_among v set.now) (values state.now var))) }
+{
+    let good = state.set(var).common(set)?;
+    if good.is_empty() {
+        Ok(Some(Found::Clash))
+    } else {
+        Ok(found(supported_bound(var, state.set(var), &good)))
+    }
+}
+
+/// The bound of the values that fail the condition.
+fn turn_against(atom: Atom, state: &State) -> Result<Option<Found>, Memory>
+    requires { atom.var < length state.now }
+    ensures turn { IfOk result (λ turn. turn ≡ turn_against atom (values state.now atom.var)) }
+    ensures domain { IfOk result (λ turn. IsDomain (values state.now atom.var)) }
+{
+    let var = atom.var();
+    let mut good = values_of(state, var)?;
+    good.exclude(atom.negated())?;
+    Ok(found(supported_bound(var, state.set(var), &good)))
 }
