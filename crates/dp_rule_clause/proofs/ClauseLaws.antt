@@ -1,5 +1,5 @@
 -- Parts that clash exactly where no variable of the scope has a good value left: what they give.
-use Rattle.std.proofs.Common.{◌≡◌, ℕ, ◌<◌, Bool, true, false, cond, not, ◌&&◌, List, [], ◌∷◌, length, set, ℤ, Option, Some, None, option_map, refl, sym, ◌∙◌, ap, subst, inl, inr}
+use Rattle.std.proofs.Common.{◌≡◌, ℕ, ◌<◌, Bool, true, false, cond, not, ◌&&◌, List, [], ◌∷◌, length, set, ℤ, Option, Some, None, option_map, Result, Ok, Err, IfOk, refl, sym, ◌∙◌, ap, subst, inl, inr}
 use Rattle.std.specs.List.{filter}
 use Rattle.std.proofs.lemmas.Bool.{and_right, both_ways, cases_eq, false_from_ne_true}
 use Rattle.std.proofs.lemmas.List.{get_or-set_other, get_or-set_same, length-set}
@@ -158,3 +158,10 @@ given_on-parts f d x good hole e g h =
     ∙ ap (λ o. or_else (lower_by (values d x) good x) (or_else o (new_hole f d x))) g
     ∙ ap (λ o. or_else (lower_by (values d x) good x) (or_else (upper_by (values d x) good x) o)) h
     ∙ either_else (lower_by (values d x) good x) (upper_by (values d x) good x) hole
+
+-- ---- answers of the code
+
+-- what two facts of an answer give together
+pub ok_both : {X E : Type 0} (r : Result X E) (P Q R : X → Type 0) → ((x : X) → P x → Q x → R x) → IfOk r P → IfOk r Q → IfOk r R
+ok_both (Ok x) P Q R h p q = h x p q
+ok_both (Err e) P Q R h p q = tt

@@ -1,7 +1,7 @@
 -- The turn of a nogood, by where the atoms stand that are not entailed.
 use Rattle.std.proofs.Common.{◌≡◌, ℕ, ◌<◌, Bool, true, false, cond, not, ◌&&◌, ◌||◌, ◌==◌, List, [], ◌∷◌, length, ℤ, int_le, ◌≤ℤ◌, Option, Some, None, option_map, refl, sym, ◌∙◌, ap, subst, inl, inr, arith}
 use Rattle.std.proofs.lemmas.Int.{ints}
-use Rattle.std.specs.List.{filter}
+use Rattle.std.specs.List.{filter, flat_map}
 use Rattle.std.proofs.lemmas.Bool.{and_from, and_parts, both_ways, cases_Bool, cases_eq, false_from_ne_true, not-true, not_from_false, or_cases, or_from, or_parts, or_right, true_from_ne_false}
 use Rattle.std.proofs.lemmas.Bool.Decides.{Decides-eqb}
 use Rattle.dp_base.specs.Lists.{Among, Each}
@@ -9,22 +9,24 @@ use Rattle.dp_base.proofs.Lists.{Among-filter_all, Among-filter_only, Each-among
 use Rattle.dp_domain.specs.Atoms.{Atomic, meets, negated}
 use Rattle.dp_domain.specs.declared.atom.Op.TheVariants.{Eq}
 use Rattle.dp_domain.specs.declared.found.Found.TheVariants.{Atom, Clash}
+use Rattle.dp_domain.specs.Explanations.{IsOpen, explanation, suffices}
 use Rattle.dp_domain.specs.Faces.{Covers}
 use Rattle.dp_domain.specs.Sets.{IsDomain, is_among, least}
-use Rattle.dp_domain.specs.States.{Domains, entails, entails_all, fails_one, is_dead, values}
+use Rattle.dp_domain.specs.States.{Domains, IsWithin, entails, entails_all, fails_one, is_dead, values}
 use Rattle.dp_domain.specs.Turns.{other_than, turn_of}
 use Rattle.dp_domain.proofs.AtomLaws.{same-from_tests}
 use Rattle.dp_domain.proofs.SetLaws.{IsDomain-filter, least-is}
 use Rattle.dp_domain.proofs.ShareLaws.{is_among-at, is_among-some}
 use Rattle.dp_domain.proofs.StateLaws.{entails-at, entails-fails, entails-from, entails-not}
 use Rattle.dp_domain.proofs.SupportLaws.{support-parts}
-use Rattle.dp_rule_clause.specs.Clauses.{given_by, open_of, open_on, taken, takes}
+use Rattle.dp_rule_clause.specs.Clauses.{AreDomains, given_by, open_of, open_on, reasons_on, taken, takes}
 use Rattle.dp_rule_clause.specs.declared.turns.Open.{Open}
 use Rattle.dp_rule_clause.specs.declared.turns.Open.TheVariants.{Nowhere, On, Apart}
-use Rattle.dp_rule_clause.specs.NogoodLaws.{atom_in_scope}
+use Rattle.dp_rule_clause.specs.NogoodLaws.{atom_in_scope, nogood_lawful}
 use Rattle.dp_rule_clause.specs.Nogoods.{face_nogood, point_nogood, same_atom, same_op, scope_of}
 use Rattle.dp_rule_clause.proofs.AtomSteps.{among-has, atoms_covered, atoms_equal, has-among, op_where}
 use Rattle.dp_rule_clause.proofs.ClauseLaws.{HasNone, HasOne, IsClause, clause-clash, clause-one, clause-several, clause-support, given_on-parts}
+use Rattle.dp_rule_clause.proofs.ClauseReasons.{explanation-reasons}
 
 -- ---- values that fail an atom
 
@@ -238,3 +240,13 @@ turn_on d atoms x c l o e =
     let parts = support-parts (face_nogood atoms) d x (filter (fails_one x atoms) (values d x)) i l ((nogood-clause atoms).safe d l x m g) support in
     clause-one (face_nogood atoms) (λ y. fails_one y atoms) d x (nogood-clause atoms) l m g
     ∙ ap (option_map Atom) (given_on-parts (face_nogood atoms) d x (filter (fails_one x atoms) (values d x)) (taken x (values d x) (filter (fails_one x atoms) (values d x)) atoms) parts.0 parts.1 (parts.2 ∙ taken-least x atoms (values d x)))
+
+-- ---- explanations
+
+-- what is needed of a description for the nogood, as the code has it
+pub nogood_explained : (atoms : List Atomic) (initial now : Domains) (target : Option Atomic) (given : List Atomic) (scope : List ℕ) → given ≡ atoms → scope ≡ scope_of atoms → Covers (scope_of atoms) now → is_dead now ≡ false → IsWithin now initial → IsOpen now target → suffices (face_nogood atoms) now target [] ≡ true → AreDomains initial scope
+    → flat_map (reasons_on (λ x. fails_one x given) target initial now) scope ≡ explanation (face_nogood atoms) initial now target
+nogood_explained atoms initial now target given scope e g c l p o t s =
+    ap (λ bs. flat_map (reasons_on (λ x. fails_one x bs) target initial now) scope) e
+    ∙ ap (flat_map (reasons_on (λ x. fails_one x atoms) target initial now)) g
+    ∙ sym (explanation-reasons (face_nogood atoms) (λ x. fails_one x atoms) initial now target (nogood-clause atoms) (nogood_lawful atoms).ordered (subst (AreDomains initial) g s) c l p o t)

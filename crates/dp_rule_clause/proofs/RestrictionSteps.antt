@@ -1,6 +1,8 @@
 -- The turn of a restriction, and what is needed of a description for it.
 use Rattle.std.proofs.Common.{◌≡◌, ℕ, ◌<◌, Bool, true, false, cond, not, ◌&&◌, ◌||◌, ◌==◌, nat_lt, ◌⊎◌, List, [], ◌∷◌, ◌++◌, length, ℤ, Option, Some, None, option_map, Result, Ok, Err, IfOk, refl, sym, ◌∙◌, ap, subst, inl, inr, arith}
+use Rattle.std.specs.declared.cmp.Ordering.TheVariants.{Less, Equal, Greater}
 use Rattle.std.specs.List.{filter, flat_map}
+use Rattle.std.specs.Ordering.{is_lt, nat_cmp}
 use Rattle.std.proofs.lemmas.Bool.{and_left, and_right, both_ways, cases_eq, false_from_ne_true, not-false, not-true, not_from_false, not_from_true, or_from}
 use Rattle.std.proofs.lemmas.Bool.Decides.{Decides-eqb}
 use Rattle.std.proofs.lemmas.List.{append-nil}
@@ -8,15 +10,16 @@ use Rattle.std.proofs.lemmas.Option.{none-some, same_Some}
 use Rattle.dp_base.specs.Lists.{Among, Each}
 use Rattle.dp_base.specs.Scopes.{in_order}
 use Rattle.dp_base.proofs.Lists.{Among-filter_all, Among-filter_only, Each-among}
-use Rattle.dp_base.proofs.ScopeLaws.{among_in_order, among_in_order_out}
+use Rattle.dp_base.specs.Scopes.{with_variable}
+use Rattle.dp_base.proofs.ScopeLaws.{among_in_order, among_in_order_out, order_of, with_variable-after, with_variable-before}
 use Rattle.dp_domain.specs.Atoms.{Atomic, meets, negated}
 use Rattle.dp_domain.specs.Conditions.{IsApart, in_force, with_condition}
 use Rattle.dp_domain.specs.declared.found.Found.{Found}
 use Rattle.dp_domain.specs.declared.found.Found.TheVariants.{Atom, Clash}
-use Rattle.dp_domain.specs.Explanations.{described}
+use Rattle.dp_domain.specs.Explanations.{IsOpen, described, explanation, suffices}
 use Rattle.dp_domain.specs.Faces.{Covers}
 use Rattle.dp_domain.specs.Sets.{IsDomain, is_among, share}
-use Rattle.dp_domain.specs.States.{Domains, entails, is_dead, is_nil, values}
+use Rattle.dp_domain.specs.States.{Domains, IsWithin, entails, is_dead, is_nil, values}
 use Rattle.dp_domain.specs.Supports.{bound_by}
 use Rattle.dp_domain.specs.Turns.{turn_of}
 use Rattle.dp_domain.proofs.AtomLaws.{meets-negated}
@@ -26,10 +29,11 @@ use Rattle.dp_domain.proofs.ShareLaws.{is_among-at, is_among-some, share-at, sha
 use Rattle.dp_domain.proofs.StateLaws.{entails-at, entails-fails, entails-from, entails-not, is_nil-among, value-from_test}
 use Rattle.dp_domain.proofs.SupportLaws.{support-bound}
 use Rattle.dp_domain.proofs.TurnLaws.{filter-same}
-use Rattle.dp_rule_clause.specs.Clauses.{failed_by, reasons_on, where_failing}
-use Rattle.dp_rule_clause.specs.RestrictionLaws.{variable_in_scope}
+use Rattle.dp_rule_clause.specs.Clauses.{AreDomains, failed_by, reasons_on, where_failing}
+use Rattle.dp_rule_clause.specs.RestrictionLaws.{variable_in_scope, within_lawful}
 use Rattle.dp_rule_clause.specs.Restrictions.{Restriction, escapes, face_within, fails_condition, open_condition, scope_of, turn_against, turn_within}
 use Rattle.dp_rule_clause.proofs.ClauseLaws.{HasNone, HasOne, IsClause, clause-clash, clause-one, clause-several, clause-support}
+use Rattle.dp_rule_clause.proofs.ClauseReasons.{explanation-reasons}
 
 -- ---- values that meet the constraint
 
@@ -218,3 +222,64 @@ reasons_variable q target initial now = ap (λ ns. failed_by ns (described (valu
 
 reasons_condition : (q : Restriction) (a : Atomic) (target : Option Atomic) (initial now : Domains) → IsApart q.condition (q.var ∷ []) → q.condition ≡ Some a → reasons_on (escapes q) target initial now a.var ≡ failed_by (filter (meets (negated a)) (where_failing target a.var (values initial a.var))) (described (values initial a.var) (values now a.var) a.var)
 reasons_condition q a target initial now apart e = ap (λ ns. failed_by ns (described (values initial a.var) (values now a.var) a.var)) (same_against q a (where_failing target a.var (values initial a.var)) apart e)
+
+scope_none : (q : Restriction) → q.condition ≡ None → scope_of q ≡ q.var ∷ []
+scope_none q e = ap (λ c. in_order (with_condition c (q.var ∷ []))) e
+
+scope_first : (q : Restriction) (a : Atomic) → q.condition ≡ Some a → nat_lt a.var q.var ≡ true → scope_of q ≡ a.var ∷ q.var ∷ []
+scope_first q a e t = ap (λ c. in_order (with_condition c (q.var ∷ []))) e ∙ ap (λ b. cond b (a.var ∷ q.var ∷ []) (cond (nat_lt q.var a.var) (q.var ∷ a.var ∷ []) (q.var ∷ []))) t
+
+scope_last : (q : Restriction) (a : Atomic) → q.condition ≡ Some a → nat_lt a.var q.var ≡ false → (q.var ≡ a.var → ⊥) → scope_of q ≡ q.var ∷ a.var ∷ []
+scope_last q a e t n = ap (λ c. in_order (with_condition c (q.var ∷ []))) e ∙ elim (order_of a.var q.var) [
+  | inl before ↦ absurd (both_ways (nat_lt a.var q.var) t before.test)
+  | inr (inl after) ↦ with_variable-after a.var q.var [] after
+  | inr (inr one) ↦ absurd (n (sym one.same))
+]
+
+less_by : (a e : Bool) → a ≡ is_lt (cond a Less (cond e Equal Greater))
+less_by true e = refl
+less_by false true = refl
+less_by false false = refl
+
+-- the order of two variables, as the code has it
+pub before_by : (x y z : ℕ) (answer t : Bool) → z ≡ x → answer ≡ is_lt (nat_cmp z y) → answer ≡ t → nat_lt x y ≡ t
+before_by x y z answer t e f g = less_by (nat_lt x y) (x == y) ∙ ap (λ w. is_lt (nat_cmp w y)) (sym e) ∙ sym f ∙ g
+
+-- what is needed for the variable, and for the condition
+abbrev for_variable : Restriction → Option Atomic → Domains → Domains → List Atomic
+for_variable q target initial now = failed_by (filter (λ v. is_among v q.set) (where_failing target q.var (values initial q.var))) (described (values initial q.var) (values now q.var) q.var)
+
+abbrev for_condition : Atomic → Option Atomic → Domains → Domains → List Atomic
+for_condition a target initial now = failed_by (filter (meets (negated a)) (where_failing target a.var (values initial a.var))) (described (values initial a.var) (values now a.var) a.var)
+
+same_two : (xs ys us ws : List Atomic) → xs ≡ us → ys ≡ ws → xs ++ ys ≡ us ++ (ws ++ [])
+same_two xs ys us ws e f = ap (λ zs. zs ++ ys) e ∙ ap (λ zs. us ++ zs) (f ∙ sym (append-nil ws))
+
+-- the reasons where there is no condition
+pub reasons_alone : (q : Restriction) (target : Option Atomic) (initial now : Domains) (old why : List Atomic) → q.condition ≡ None → old ≡ [] → why ≡ old ++ for_variable q target initial now → why ≡ flat_map (reasons_on (escapes q) target initial now) (scope_of q)
+reasons_alone q target initial now old why e f g =
+    g ∙ ap (λ zs. zs ++ for_variable q target initial now) f ∙ sym (reasons_variable q target initial now) ∙ sym (append-nil (reasons_on (escapes q) target initial now q.var))
+    ∙ sym (ap (flat_map (reasons_on (escapes q) target initial now)) (scope_none q e))
+
+-- where the condition's variable comes first
+pub reasons_after : (q : Restriction) (a : Atomic) (target : Option Atomic) (initial now : Domains) (old then why : List Atomic) → IsApart q.condition (q.var ∷ []) → q.condition ≡ Some a → nat_lt a.var q.var ≡ true → old ≡ [] → then ≡ old ++ for_condition a target initial now → why ≡ then ++ for_variable q target initial now
+    → why ≡ flat_map (reasons_on (escapes q) target initial now) (scope_of q)
+reasons_after q a target initial now old then why apart e t f g h =
+    h ∙ ap (λ zs. zs ++ for_variable q target initial now) (g ∙ ap (λ zs. zs ++ for_condition a target initial now) f)
+    ∙ same_two (for_condition a target initial now) (for_variable q target initial now) (reasons_on (escapes q) target initial now a.var) (reasons_on (escapes q) target initial now q.var) (sym (reasons_condition q a target initial now apart e)) (sym (reasons_variable q target initial now))
+    ∙ sym (ap (flat_map (reasons_on (escapes q) target initial now)) (scope_first q a e t))
+
+-- where it comes last
+pub reasons_before : (q : Restriction) (a : Atomic) (target : Option Atomic) (initial now : Domains) (old then why : List Atomic) → IsApart q.condition (q.var ∷ []) → q.condition ≡ Some a → nat_lt a.var q.var ≡ false → old ≡ [] → then ≡ old ++ for_variable q target initial now → why ≡ then ++ for_condition a target initial now
+    → why ≡ flat_map (reasons_on (escapes q) target initial now) (scope_of q)
+reasons_before q a target initial now old then why apart e t f g h =
+    h ∙ ap (λ zs. zs ++ for_condition a target initial now) (g ∙ ap (λ zs. zs ++ for_variable q target initial now) f)
+    ∙ same_two (for_variable q target initial now) (for_condition a target initial now) (reasons_on (escapes q) target initial now q.var) (reasons_on (escapes q) target initial now a.var) (sym (reasons_variable q target initial now)) (sym (reasons_condition q a target initial now apart e))
+    ∙ sym (ap (flat_map (reasons_on (escapes q) target initial now)) (scope_last q a e t (condition_apart q a apart e)))
+
+-- what is needed of a description for the restriction, as the code has it
+pub within_explained : (q p : Restriction) (initial now : Domains) (target : Option Atomic) → p ≡ q → IsApart p.condition (p.var ∷ []) → Covers (scope_of q) now → is_dead now ≡ false → IsWithin now initial → IsOpen now target → suffices (face_within q) now target [] ≡ true → AreDomains initial (scope_of p)
+    → flat_map (reasons_on (escapes p) target initial now) (scope_of p) ≡ explanation (face_within q) initial now target
+within_explained q p initial now target e apart c l w o t s =
+    sym (explanation-reasons (face_within p) (escapes p) initial now target (within-clause p apart) (within_lawful p).ordered s (subst (λ r. Covers (scope_of r) now) (sym e) c) l w o (subst (λ r. suffices (face_within r) now target [] ≡ true) (sym e) t))
+    ∙ ap (λ r. explanation (face_within r) initial now target) e
