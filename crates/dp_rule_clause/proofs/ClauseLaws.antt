@@ -1,5 +1,5 @@
 -- Parts that clash exactly where no variable of the scope has a good value left: what they give.
-use Rattle.std.proofs.Common.{◌≡◌, ℕ, ◌<◌, Bool, true, false, cond, not, ◌&&◌, List, [], ◌∷◌, length, set, ℤ, Option, Some, None, option_map, Result, Ok, Err, IfOk, refl, sym, ◌∙◌, ap, subst, inl, inr}
+use Rattle.std.proofs.Common.{◌≡◌, ℕ, ◌<◌, Bool, true, false, cond, ◌&&◌, List, [], ◌∷◌, length, set, ℤ, Option, Some, None, option_map, Result, Ok, Err, IfOk, refl, sym, ◌∙◌, ap, subst, inl, inr}
 use Rattle.std.specs.List.{filter}
 use Rattle.std.proofs.lemmas.Bool.{and_right, both_ways, cases_eq, false_from_ne_true}
 use Rattle.std.proofs.lemmas.List.{get_or-set_other, get_or-set_same, length-set}
@@ -8,7 +8,7 @@ use Rattle.dp_base.proofs.Lists.{Among-filter_all, Among-filter_only}
 use Rattle.dp_domain.specs.Atoms.{Atomic, negated}
 use Rattle.dp_domain.specs.declared.found.Found.TheVariants.{Atom, Clash}
 use Rattle.dp_domain.specs.Faces.{Face}
-use Rattle.dp_domain.specs.Sets.{IsDomain, greatest, is_among, least}
+use Rattle.dp_domain.specs.Sets.{IsDomain, greatest, least}
 use Rattle.dp_domain.specs.States.{Domains, cut, entails, is_dead, values}
 use Rattle.dp_domain.specs.Supports.{IsSupport, bound_by, lower_by, upper_by}
 use Rattle.dp_domain.specs.Turns.{at_least, at_most, given, given_on, gives, new_hole, new_lower, new_upper, or_else, other_than, turn_of}
@@ -86,8 +86,8 @@ given_one f d x [] m h = absurd m
 given_one f d x (y ∷ ys) m h = elim (cases_eq y x) [
   | inl e ↦ given_here f d x y ys (given_on f d x) refl e (λ z k. h z (inr k))
   | inr n ↦
-    ap (λ o. or_else o (given f d ys)) (h y (inl refl) n)
-    ∙ given_one f d x ys (elim m [ inl e ↦ absurd (n (sym e)) | inr k ↦ k ]) (λ z k. h z (inr k))
+      ap (λ o. or_else o (given f d ys)) (h y (inl refl) n)
+      ∙ given_one f d x ys (elim m [ inl e ↦ absurd (n (sym e)) | inr k ↦ k ]) (λ z k. h z (inr k))
 ]
 
 -- ---- turns
@@ -121,8 +121,8 @@ set_clashes : (f : Face) (good : ℕ → ℤ → Bool) (d : Domains) (x : ℕ) (
 set_clashes f good d x p c l i none k =
     c.clash (set d x (filter p (values d x))) l (λ y r w m. elim (cases_eq y x) [
       | inl q ↦
-        let n = Among-filter_only p (values d x) w (subst (λ zs. Among w zs) (get_or-set_same d x (filter p (values d x)) [] i) (subst (λ z. Among w (values (set d x (filter p (values d x))) z)) q m)) in
-        ap (λ z. good z w) q ∙ false_from_ne_true (good x w) (λ t. k w n.0 n.1 (Among-filter_all (good x) (values d x) w n.0 t))
+          let n = Among-filter_only p (values d x) w (subst (λ zs. Among w zs) (get_or-set_same d x (filter p (values d x)) [] i) (subst (λ z. Among w (values (set d x (filter p (values d x))) z)) q m)) in
+          ap (λ z. good z w) q ∙ false_from_ne_true (good x w) (λ t. k w n.0 n.1 (Among-filter_all (good x) (values d x) w n.0 t))
       | inr n ↦ none y r n w (subst (λ zs. Among w zs) (get_or-set_other d x y (filter p (values d x)) [] n) m)
     ])
 
@@ -143,8 +143,8 @@ clause-support f good d x c l i s o none = record {
   domain = o;
   within = λ v h. (Among-filter_only (good x) (values d x) v h).0;
   clash = λ p v h t.
-  let alive = alive-set d x (filter p (values d x)) v l i (Among-filter_all p (values d x) v h t) in
-  (set_safe f good d x p c alive i s, set_clashes f good d x p c alive i none);
+      let alive = alive-set d x (filter p (values d x)) v l i (Among-filter_all p (values d x) v h t) in
+      (set_safe f good d x p c alive i s, set_clashes f good d x p c alive i none);
 }
 
 either_else : {A : Type 0} (a b c : Option A) → or_else a (or_else b c) ≡ or_else (or_else a b) c

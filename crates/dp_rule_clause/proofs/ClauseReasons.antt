@@ -11,7 +11,7 @@ use Rattle.dp_base.proofs.Lists.{Among-append_cases, Among-append_left, Among-ap
 use Rattle.dp_domain.specs.Atoms.{Atomic, meets, negated}
 use Rattle.dp_domain.specs.Explanations.{IsOpen, bound_atom, described, description, explanation, failing, has, is_hole, is_less, needed, suffices}
 use Rattle.dp_domain.specs.Faces.{Covers, Face}
-use Rattle.dp_domain.specs.Sets.{IsAscending, IsDomain, greatest, least}
+use Rattle.dp_domain.specs.Sets.{IsAscending, greatest, least}
 use Rattle.dp_domain.specs.States.{Domains, IsWithin, cut_all, entails, is_dead, values}
 use Rattle.dp_domain.specs.Turns.{at_least, at_most, other_than}
 use Rattle.dp_domain.proofs.AtomLaws.{lt-from_test, meets-ne, same-from_tests, test-from_le}
@@ -65,8 +65,8 @@ holes_parted : (x : ℕ) (hs : List ℤ) → IsAscending hs → IsParted (map (o
 holes_parted x [] s = tt
 holes_parted x (h ∷ hs) s = (
   Each-from_among (Apart (other_than x h)) (map (other_than x) hs) (λ b k.
-  let r = Among-map_item (other_than x) hs b k in
-  subst (Apart (other_than x h)) (sym r.2) (λ e v n. other_meets x h r.0 v (Each-among (λ y. h <ℤ y) hs s.0 r.0 r.1) n)),
+      let r = Among-map_item (other_than x) hs b k in
+      subst (Apart (other_than x h)) (sym r.2) (λ e v n. other_meets x h r.0 v (Each-among (λ y. h <ℤ y) hs s.0 r.0 r.1) n)),
   holes_parted x hs s.1,
 )
 
@@ -289,15 +289,15 @@ needed_used f good initial now target lost c r l p o kept (a ∷ rest) t =
     let alive : is_dead (cut_all initial ((kept ++ rest) ++ failing target)) ≡ false = alive_by initial now target (kept ++ rest) l p o (λ b k. t.entailed b (without kept rest a b k)) in
     elim (cases_Bool (list_all (meets a) (lost a.var))) [
       | inl e ↦
-        ap (λ b. cond b (needed f initial target kept rest) (needed f initial target (kept ++ a ∷ []) rest)) (suffices_from f good initial target lost (kept ++ rest) c r alive (idle_covered f now lost kept rest a t e))
-        ∙ needed_used f good initial now target lost c r l p o kept rest (at_idle f now lost kept rest a t e)
-        ∙ ap (λ b. kept ++ cond (not b) (a ∷ filter (is_used lost) rest) (filter (is_used lost) rest)) (sym e)
+          ap (λ b. cond b (needed f initial target kept rest) (needed f initial target (kept ++ a ∷ []) rest)) (suffices_from f good initial target lost (kept ++ rest) c r alive (idle_covered f now lost kept rest a t e))
+          ∙ needed_used f good initial now target lost c r l p o kept rest (at_idle f now lost kept rest a t e)
+          ∙ ap (λ b. kept ++ cond (not b) (a ∷ filter (is_used lost) rest) (filter (is_used lost) rest)) (sym e)
       | inr e ↦
-        let w = list_all-fails (meets a) (lost a.var) e in
-        ap (λ b. cond b (needed f initial target kept rest) (needed f initial target (kept ++ a ∷ []) rest)) (suffices_not f good initial target lost (kept ++ rest) c r alive a.var (t.of_scope a (inl refl)) w.0 w.1 (others_met f now lost kept rest a w.0 t w.2))
-        ∙ needed_used f good initial now target lost c r l p o (kept ++ a ∷ []) rest (at_used f now lost kept rest a t)
-        ∙ append_assoc kept (a ∷ []) (filter (is_used lost) rest)
-        ∙ ap (λ b. kept ++ cond (not b) (a ∷ filter (is_used lost) rest) (filter (is_used lost) rest)) (sym e)
+          let w = list_all-fails (meets a) (lost a.var) e in
+          ap (λ b. cond b (needed f initial target kept rest) (needed f initial target (kept ++ a ∷ []) rest)) (suffices_not f good initial target lost (kept ++ rest) c r alive a.var (t.of_scope a (inl refl)) w.0 w.1 (others_met f now lost kept rest a w.0 t w.2))
+          ∙ needed_used f good initial now target lost c r l p o (kept ++ a ∷ []) rest (at_used f now lost kept rest a t)
+          ∙ append_assoc kept (a ∷ []) (filter (is_used lost) rest)
+          ∙ ap (λ b. kept ++ cond (not b) (a ∷ filter (is_used lost) rest) (filter (is_used lost) rest)) (sym e)
     ]
 
 -- ---- the whole description
@@ -318,22 +318,22 @@ at_start : (f : Face) (good : ℕ → ℤ → Bool) (initial now : Domains) (tar
     → IsAt f now lost [] (description initial now f.scope)
 at_start f good initial now target lost c r up s cov l p o t = record {
   entailed = λ a k. entails-from now a (λ w m.
-  let q = Among-flat_map_piece (λ y. described (values initial y) (values now y) y) f.scope a k in
-  let d = described-holds (values initial q.0) (values now q.0) q.0 a q.2 in
-  d.1 w (subst (λ y. Among w (values now y)) d.0 m));
+      let q = Among-flat_map_piece (λ y. described (values initial y) (values now y) y) f.scope a k in
+      let d = described-holds (values initial q.0) (values now q.0) q.0 a q.2 in
+      d.1 w (subst (λ y. Among w (values now y)) d.0 m));
   of_scope = λ a k.
-  let q = Among-flat_map_piece (λ y. described (values initial y) (values now y) y) f.scope a k in
-  let d = described-holds (values initial q.0) (values now q.0) q.0 a q.2 in
-  subst (λ y. Among y f.scope) (sym d.0) q.1;
+      let q = Among-flat_map_piece (λ y. described (values initial y) (values now y) y) f.scope a k in
+      let d = described-holds (values initial q.0) (values now q.0) q.0 a q.2 in
+      subst (λ y. Among y f.scope) (sym d.0) q.1;
   covered = λ x h v m k.
-  let q = r.only x h v m in
-  both_ways (f.test (cut_all now (failing target)))
-  (c.safe (cut_all now (failing target)) (failing_alive now target l o) x h (
-    v,
-    Among-cut_all_from now (failing target) x v (now_value initial now f.scope x v cov l p h q.0 k) q.2,
-    q.1,
-  ))
-  t;
+      let q = r.only x h v m in
+      both_ways (f.test (cut_all now (failing target)))
+      (c.safe (cut_all now (failing target)) (failing_alive now target l o) x h (
+        v,
+        Among-cut_all_from now (failing target) x v (now_value initial now f.scope x v cov l p h q.0 k) q.2,
+        q.1,
+      ))
+      t;
   before = λ a b h k. absurd h;
   parted = description_parted initial now f.scope up s;
 }
@@ -384,9 +384,9 @@ failing_all (Some a) x vs v h k = failing_all_at a x vs v (a.var == x) refl h k
 lost_of : (good : ℕ → ℤ → Bool) (initial : Domains) (target : Option Atomic) (scope : List ℕ) → AreLost good initial target scope (lost_by good target initial)
 lost_of good initial target scope = record {
   only = λ x s v h.
-  let r = Among-filter_only (good x) (where_failing target x (values initial x)) v h in
-  let k = failing_only target x (values initial x) v r.0 in
-  (k.0, r.1, k.1);
+      let r = Among-filter_only (good x) (where_failing target x (values initial x)) v h in
+      let k = failing_only target x (values initial x) v r.0 in
+      (k.0, r.1, k.1);
   all = λ x s v h g k. Among-filter_all (good x) (where_failing target x (values initial x)) v (failing_all target x (values initial x) v h k) g;
 }
 

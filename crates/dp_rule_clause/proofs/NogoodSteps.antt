@@ -1,10 +1,10 @@
 -- The turn of a nogood, by where the atoms stand that are not entailed.
-use Rattle.std.proofs.Common.{◌≡◌, ℕ, ◌<◌, Bool, true, false, cond, not, ◌&&◌, ◌||◌, ◌==◌, List, [], ◌∷◌, length, ℤ, int_le, ◌≤ℤ◌, Option, Some, None, option_map, refl, sym, ◌∙◌, ap, subst, inl, inr, arith}
+use Rattle.std.proofs.Common.{◌≡◌, ℕ, ◌<◌, Bool, true, false, cond, not, ◌&&◌, ◌||◌, ◌==◌, List, [], ◌∷◌, length, ℤ, ◌≤ℤ◌, Option, Some, None, option_map, refl, sym, ◌∙◌, ap, subst, inl, inr, arith}
 use Rattle.std.proofs.lemmas.Int.{ints}
 use Rattle.std.specs.List.{filter, flat_map}
-use Rattle.std.proofs.lemmas.Bool.{and_from, and_parts, both_ways, cases_Bool, cases_eq, false_from_ne_true, not-true, not_from_false, or_cases, or_from, or_parts, or_right, true_from_ne_false}
+use Rattle.std.proofs.lemmas.Bool.{and_from, and_parts, both_ways, false_from_ne_true, not-true, not_from_false, or_cases, or_from, or_parts, or_right, true_from_ne_false}
 use Rattle.std.proofs.lemmas.Bool.Decides.{Decides-eqb}
-use Rattle.dp_base.specs.Lists.{Among, Each}
+use Rattle.dp_base.specs.Lists.{Among}
 use Rattle.dp_base.proofs.Lists.{Among-filter_all, Among-filter_only, Each-among, list_all-from, list_all-not, list_any-at, list_any-some}
 use Rattle.dp_domain.specs.Atoms.{Atomic, meets, negated}
 use Rattle.dp_domain.specs.declared.atom.Op.TheVariants.{Eq}
@@ -23,8 +23,8 @@ use Rattle.dp_rule_clause.specs.Clauses.{AreDomains, given_by, open_of, open_on,
 use Rattle.dp_rule_clause.specs.declared.turns.Open.{Open}
 use Rattle.dp_rule_clause.specs.declared.turns.Open.TheVariants.{Nowhere, On, Apart}
 use Rattle.dp_rule_clause.specs.NogoodLaws.{atom_in_scope, nogood_lawful}
-use Rattle.dp_rule_clause.specs.Nogoods.{face_nogood, point_nogood, same_atom, same_op, scope_of}
-use Rattle.dp_rule_clause.proofs.AtomSteps.{among-has, atoms_covered, atoms_equal, has-among, op_where}
+use Rattle.dp_rule_clause.specs.Nogoods.{face_nogood, point_nogood, same_op, scope_of}
+use Rattle.dp_rule_clause.proofs.AtomSteps.{among-has, atoms_equal, has-among, op_where}
 use Rattle.dp_rule_clause.proofs.ClauseLaws.{HasNone, HasOne, IsClause, clause-clash, clause-one, clause-several, clause-support, given_on-parts}
 use Rattle.dp_rule_clause.proofs.ClauseReasons.{explanation-reasons}
 
@@ -44,12 +44,12 @@ fails_some x atoms v t =
 pub nogood-clause : (atoms : List Atomic) → IsClause (face_nogood atoms) (λ x. fails_one x atoms)
 nogood-clause atoms = record {
   clash = λ d l h.
-  or_right (is_dead d) (entails_all d atoms)
-  (list_all-from (entails d) atoms (λ a m. entails-from d a (λ v k.
-  true_from_ne_false (meets a v) (λ n. both_ways (fails_one a.var atoms v) (h a.var (atom_in_scope atoms a m) v k) (fails_at a.var atoms a v m refl n)))));
+      or_right (is_dead d) (entails_all d atoms)
+      (list_all-from (entails d) atoms (λ a m. entails-from d a (λ v k.
+      true_from_ne_false (meets a v) (λ n. both_ways (fails_one a.var atoms v) (h a.var (atom_in_scope atoms a m) v k) (fails_at a.var atoms a v m refl n)))));
   safe = λ d l x s g.
-  let r = fails_some x atoms g.0 g.2 in
-  or_from (is_dead d) (entails_all d atoms) l (list_all-not (entails d) atoms r.0 r.1 (entails-not d r.0 g.0 (subst (λ y. Among g.0 (values d y)) (sym r.2) g.1) r.3));
+      let r = fails_some x atoms g.0 g.2 in
+      or_from (is_dead d) (entails_all d atoms) l (list_all-not (entails d) atoms r.0 r.1 (entails-not d r.0 g.0 (subst (λ y. Among g.0 (values d y)) (sym r.2) g.1) r.3));
 }
 
 -- ---- where the atoms stand that are not entailed
@@ -216,8 +216,8 @@ taken_by x atoms vs (Some g) s =
     let m : Among (record { var = x; op = Eq; value = a.value }) atoms = subst (λ b. Among b atoms) p.0 s.1 in
     let k : lacks x atoms (filter (fails_one x atoms) vs) a.value ≡ true = and_from (point_nogood atoms x a.value) (not (is_among a.value (filter (fails_one x atoms) vs))) (has-among atoms (record { var = x; op = Eq; value = a.value }) m) (not_from_false (is_among a.value (filter (fails_one x atoms) vs)) p.2) in
     let e = least-is (filter (lacks x atoms (filter (fails_one x atoms) vs)) vs) a.value
-      (Among-filter_all (lacks x atoms (filter (fails_one x atoms) vs)) vs a.value (is_among-some a.value vs p.1) k)
-      (λ v h. least_one a.value v (only_point x atoms vs a.value v m h)) in
+    (Among-filter_all (lacks x atoms (filter (fails_one x atoms) vs)) vs a.value (is_among-some a.value vs p.1) k)
+    (λ v h. least_one a.value v (only_point x atoms vs a.value v m h)) in
     ap (option_map (other_than x)) e ∙ ap Some (sym (s.3 ∙ ap negated p.0))
   where
     least_one : (u v : ℤ) → v ≡ u → u ≤ℤ v
@@ -236,7 +236,7 @@ turn_on d atoms x c l o e =
     let m = in_scope d atoms x s.0 in
     let g = has_one d atoms x s.0 in
     let support = clause-support (face_nogood atoms) (λ y. fails_one y atoms) d x (nogood-clause atoms) l i m (IsDomain-filter (fails_one x atoms) (values d x) o)
-      (λ y k n. has_none d atoms y (λ a h q. s.1 a h (λ r. n (sym q ∙ r)))) in
+    (λ y k n. has_none d atoms y (λ a h q. s.1 a h (λ r. n (sym q ∙ r)))) in
     let parts = support-parts (face_nogood atoms) d x (filter (fails_one x atoms) (values d x)) i l ((nogood-clause atoms).safe d l x m g) support in
     clause-one (face_nogood atoms) (λ y. fails_one y atoms) d x (nogood-clause atoms) l m g
     ∙ ap (option_map Atom) (given_on-parts (face_nogood atoms) d x (filter (fails_one x atoms) (values d x)) (taken x (values d x) (filter (fails_one x atoms) (values d x)) atoms) parts.0 parts.1 (parts.2 ∙ taken-least x atoms (values d x)))

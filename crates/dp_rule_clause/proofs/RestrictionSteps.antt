@@ -1,17 +1,16 @@
 -- The turn of a restriction, and what is needed of a description for it.
-use Rattle.std.proofs.Common.{◌≡◌, ℕ, ◌<◌, Bool, true, false, cond, not, ◌&&◌, ◌||◌, ◌==◌, nat_lt, ◌⊎◌, List, [], ◌∷◌, ◌++◌, length, ℤ, Option, Some, None, option_map, Result, Ok, Err, IfOk, refl, sym, ◌∙◌, ap, subst, inl, inr, arith}
+use Rattle.std.proofs.Common.{◌≡◌, ℕ, ◌<◌, Bool, true, false, cond, not, ◌&&◌, ◌==◌, nat_lt, ◌⊎◌, List, [], ◌∷◌, ◌++◌, length, ℤ, Option, Some, None, option_map, Result, Ok, Err, IfOk, refl, sym, ◌∙◌, ap, subst, inl, inr}
 use Rattle.std.specs.declared.cmp.Ordering.TheVariants.{Less, Equal, Greater}
 use Rattle.std.specs.List.{filter, flat_map}
 use Rattle.std.specs.Ordering.{is_lt, nat_cmp}
-use Rattle.std.proofs.lemmas.Bool.{and_left, and_right, both_ways, cases_eq, false_from_ne_true, not-false, not-true, not_from_false, not_from_true, or_from}
+use Rattle.std.proofs.lemmas.Bool.{and_left, and_right, both_ways, false_from_ne_true, not-false, not-true, not_from_false, not_from_true, or_from}
 use Rattle.std.proofs.lemmas.Bool.Decides.{Decides-eqb}
 use Rattle.std.proofs.lemmas.List.{append-nil}
 use Rattle.std.proofs.lemmas.Option.{none-some, same_Some}
-use Rattle.dp_base.specs.Lists.{Among, Each}
+use Rattle.dp_base.specs.Lists.{Among}
 use Rattle.dp_base.specs.Scopes.{in_order}
 use Rattle.dp_base.proofs.Lists.{Among-filter_all, Among-filter_only, Each-among}
-use Rattle.dp_base.specs.Scopes.{with_variable}
-use Rattle.dp_base.proofs.ScopeLaws.{among_in_order, among_in_order_out, order_of, with_variable-after, with_variable-before}
+use Rattle.dp_base.proofs.ScopeLaws.{among_in_order, among_in_order_out, order_of, with_variable-after}
 use Rattle.dp_domain.specs.Atoms.{Atomic, meets, negated}
 use Rattle.dp_domain.specs.Conditions.{IsApart, in_force, with_condition}
 use Rattle.dp_domain.specs.declared.found.Found.{Found}
@@ -93,22 +92,22 @@ variable_one q d t =
 pub within-clause : (q : Restriction) → IsApart q.condition (q.var ∷ []) → IsClause (face_within q) (escapes q)
 within-clause q apart = record {
   clash = λ d l h.
-  test_over (is_dead d) (in_force d q.condition) (not (share (values d q.var) q.set))
-  (in_force_where q.condition d (λ a e. entails-from d a (λ v k. not-false (meets a v) (sym (escapes_condition q a v apart e) ∙ h a.var (condition_in_scope q a e) v k))))
-  (not_from_false (share (values d q.var) q.set) (share-none (values d q.var) q.set (λ v m k.
-  both_ways (is_among v q.set) (sym (escapes_variable q v) ∙ h q.var (variable_in_scope q) v m) (is_among-at v q.set k))));
+      test_over (is_dead d) (in_force d q.condition) (not (share (values d q.var) q.set))
+      (in_force_where q.condition d (λ a e. entails-from d a (λ v k. not-false (meets a v) (sym (escapes_condition q a v apart e) ∙ h a.var (condition_in_scope q a e) v k))))
+      (not_from_false (share (values d q.var) q.set) (share-none (values d q.var) q.set (λ v m k.
+      both_ways (is_among v q.set) (sym (escapes_variable q v) ∙ h q.var (variable_in_scope q) v m) (is_among-at v q.set k))));
   safe = λ d l x s g. elim (scope_cases q x s) [
     | inl e ↦
-      let t : is_among g.0 q.set ≡ true = sym (escapes_variable q g.0) ∙ ap (λ y. escapes q y g.0) (sym e) ∙ g.2 in
-      let m : Among g.0 (values d q.var) = subst (λ y. Among g.0 (values d y)) e g.1 in
-      or_from (is_dead d) (in_force d q.condition && not (share (values d q.var) q.set)) l
-      (and_right (in_force d q.condition) (not (share (values d q.var) q.set)) (not_from_true (share (values d q.var) q.set) (share-at (values d q.var) q.set g.0 m (is_among-some g.0 q.set t))))
+        let t : is_among g.0 q.set ≡ true = sym (escapes_variable q g.0) ∙ ap (λ y. escapes q y g.0) (sym e) ∙ g.2 in
+        let m : Among g.0 (values d q.var) = subst (λ y. Among g.0 (values d y)) e g.1 in
+        or_from (is_dead d) (in_force d q.condition && not (share (values d q.var) q.set)) l
+        (and_right (in_force d q.condition) (not (share (values d q.var) q.set)) (not_from_true (share (values d q.var) q.set) (share-at (values d q.var) q.set g.0 m (is_among-some g.0 q.set t))))
     | inr r ↦
-      let a : Atomic = r.0 in
-      let t : not (meets a g.0) ≡ true = sym (escapes_condition q a g.0 apart r.1) ∙ ap (λ y. escapes q y g.0) (sym r.2) ∙ g.2 in
-      let n : entails d a ≡ false = entails-not d a g.0 (subst (λ y. Among g.0 (values d y)) r.2 g.1) (not-true (meets a g.0) t) in
-      or_from (is_dead d) (in_force d q.condition && not (share (values d q.var) q.set)) l
-      (and_left (in_force d q.condition) (not (share (values d q.var) q.set)) (in_force_not q.condition d a r.1 n))
+        let a : Atomic = r.0 in
+        let t : not (meets a g.0) ≡ true = sym (escapes_condition q a g.0 apart r.1) ∙ ap (λ y. escapes q y g.0) (sym r.2) ∙ g.2 in
+        let n : entails d a ≡ false = entails-not d a g.0 (subst (λ y. Among g.0 (values d y)) r.2 g.1) (not-true (meets a g.0) t) in
+        or_from (is_dead d) (in_force d q.condition && not (share (values d q.var) q.set)) l
+        (and_left (in_force d q.condition) (not (share (values d q.var) q.set)) (in_force_not q.condition d a r.1 n))
   ];
 }
 

@@ -1,5 +1,5 @@
 -- Parts that are met as soon as one variable has a good value: where atoms stand that are not entailed, and which atoms of a description are needed.
-use Rattle.std.specs.Prelude.{ℕ, Bool, true, false, not, ◌&&◌, ◌||◌, ◌==◌, Option, Some, None, option_map, if◌then◌else◌, List, [], ◌∷◌, filter, ℤ}
+use Rattle.std.specs.Prelude.{ℕ, Bool, not, ◌&&◌, ◌||◌, ◌==◌, Option, Some, None, option_map, if◌then◌else◌, List, [], ◌∷◌, filter, ℤ}
 use Rattle.std.specs.List.{list_all}
 use Rattle.dp_base.specs.Lists.{Each}
 use Rattle.dp_domain.specs.Atoms.{Atomic, meets, negated}
@@ -8,7 +8,7 @@ use Rattle.dp_domain.specs.declared.found.Found.{Found}
 use Rattle.dp_domain.specs.declared.found.Found.TheVariants.{Atom}
 use Rattle.dp_domain.specs.Explanations.{described}
 use Rattle.dp_domain.specs.Sets.{IsDomain, is_among}
-use Rattle.dp_domain.specs.States.{Domains, entails, fails_one, values}
+use Rattle.dp_domain.specs.States.{Domains, entails, values}
 use Rattle.dp_domain.specs.Turns.{or_else}
 use Rattle.dp_domain.specs.Supports.{bound_by}
 use Rattle.dp_rule_clause.specs.declared.turns.Open.{Open}

@@ -13,3 +13,5 @@ pub use within::{BadCondition, Within};
 
 #[cfg(test)]
 mod tests;
+#[cfg(test)]
+mod turn_tests;

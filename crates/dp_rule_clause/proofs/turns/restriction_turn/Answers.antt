@@ -1,7 +1,6 @@
 -- The turn by whether the condition is to be met, and whether a value lies in the set.
-use Rattle.std.proofs.Common.{◌≡◌, false, true, sym, ap, ◌∙◌}
+use Rattle.std.proofs.Common.{sym, ap, ◌∙◌}
 use Rattle.dp_domain.specs.Sets.{share}
-use Rattle.dp_domain.specs.States.{values}
 use Rattle.dp_rule_clause.specs.Restrictions.{Restriction}
 use Rattle.dp_rule_clause.proofs.RestrictionSteps.{answer_against, answer_within, turn-free}
 use Rattle.dp_rule_clause.proofs.turns.restriction_turn.Goals as goal
