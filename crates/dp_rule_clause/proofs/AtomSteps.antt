@@ -20,7 +20,8 @@ use Rattle.dp_rule_clause.specs.Nogoods.{IsOnce, each_once, has_atom, same_atom,
 
 -- ---- equal atoms
 
-op_where : (o p : Op) → same_op o p ≡ true → o ≡ p
+-- comparisons that pass the test are one
+pub op_where : (o p : Op) → same_op o p ≡ true → o ≡ p
 op_where Ge Ge e = refl
 op_where Le Le e = refl
 op_where Eq Eq e = refl
@@ -33,7 +34,8 @@ same_op_itself Le = refl
 same_op_itself Eq = refl
 same_op_itself Ne = refl
 
-atoms_equal : (a b : Atomic) → a.var ≡ b.var → a.op ≡ b.op → a.value ≡ b.value → a ≡ b
+-- atoms of one variable, comparison and number are one
+pub atoms_equal : (a b : Atomic) → a.var ≡ b.var → a.op ≡ b.op → a.value ≡ b.value → a ≡ b
 atoms_equal a b e f g =
     let by_var : ℕ → Atomic = λ x. record { var = x; op = a.op; value = a.value } in
     let by_op : Op → Atomic = λ o. record { var = b.var; op = o; value = a.value } in

@@ -1,2 +1,6 @@
 pub mod AtomSteps
+pub mod ClauseLaws
+pub mod ClauseReasons
+pub mod NogoodSteps
 pub mod OrderSteps
+pub mod RestrictionSteps

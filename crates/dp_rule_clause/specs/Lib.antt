@@ -1,4 +1,5 @@
 pub mod Nogoods
 pub mod Restrictions
+pub mod Clauses
 pub mod NogoodLaws
 pub mod RestrictionLaws

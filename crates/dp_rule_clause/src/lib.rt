@@ -3,6 +3,8 @@
 
 mod atoms;
 mod nogood;
+mod reasons;
+mod turns;
 mod within;
 
 pub use dp_domain::{Atom, Dom, Found, Memory, Rule, State, Steps, Test, VarId};
@@ -11,3 +13,5 @@ pub use within::{BadCondition, Within};
 
 #[cfg(test)]
 mod tests;
+#[cfg(test)]
+mod turn_tests;

@@ -6,8 +6,7 @@ ghost use Rattle.dp_domain.specs.Atoms.{Atomic};
 ghost use Rattle.dp_rule_clause.specs.NogoodLaws.{nogood_deciding, nogood_exact, nogood_lawful, nogood_sound};
 ghost use Rattle.dp_rule_clause.specs.Nogoods.{ClashesNogood, IsOnce, MeetsNogood, each_once, face_nogood};
 
-use crate::{Atom, Found, Memory, Rule, State, Steps, Test, VarId, atoms};
-use dp_domain::{search_explanation, search_turn};
+use crate::{Atom, Found, Memory, Rule, State, Steps, Test, VarId, atoms, reasons, turns};
 use smallvec::SmallVec;
 use std::alloc::Global;
 use std::marker::Model;
@@ -92,7 +91,8 @@ impl Rule for Nogood {
         state: &State,
         steps: &mut Steps<L>,
     ) -> Result<Option<Found>, Memory> {
-        search_turn(self, state, steps)
+        steps.tick();
+        turns::nogood_turn(self.atoms.as_slice(), state)
     }
 
     fn explain(
@@ -101,6 +101,7 @@ impl Rule for Nogood {
         now: &State,
         target: Option<Atom>,
     ) -> Result<Vec<Atom>, Memory> {
-        search_explanation(self, initial, now, target)
+        let (atoms, scope) = (self.atoms.as_slice(), self.scope.as_slice());
+        reasons::nogood_reasons(atoms, scope, initial, now, &target)
     }
 }

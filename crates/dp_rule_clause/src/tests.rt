@@ -4,14 +4,14 @@ use dp_trials::{clash_at, is_counted, range, state_of};
 use std::alloc::Global;
 use std::test::Fail;
 
-fn atom(var: u32, op: Op, value: i64) -> Atom {
+pub fn atom(var: u32, op: Op, value: i64) -> Atom {
     match Atom::new(VarId(var), op, value) {
         Some(atom) => atom,
         None => Atom::default(),
     }
 }
 
-fn atoms(alloc: Global, rows: &[(u32, Op, i64)]) -> Result<Vec<Atom>, Memory> {
+pub fn atoms(alloc: Global, rows: &[(u32, Op, i64)]) -> Result<Vec<Atom>, Memory> {
     let mut atoms = Vec::new(alloc);
     for (var, op, value) in rows {
         atoms.push(atom(*var, *op, *value))?;
@@ -19,7 +19,7 @@ fn atoms(alloc: Global, rows: &[(u32, Op, i64)]) -> Result<Vec<Atom>, Memory> {
     Ok(atoms)
 }
 
-fn nogood(alloc: Global, rows: &[(u32, Op, i64)]) -> Result<Nogood, Memory> {
+pub fn nogood(alloc: Global, rows: &[(u32, Op, i64)]) -> Result<Nogood, Memory> {
     Nogood::new(alloc, atoms(alloc, rows)?.as_slice())
 }
 

@@ -7,8 +7,7 @@ ghost use Rattle.dp_domain.specs.Faces.{Covers};
 ghost use Rattle.dp_rule_clause.specs.RestrictionLaws.{within_deciding, within_exact, within_lawful, within_sound};
 ghost use Rattle.dp_rule_clause.specs.Restrictions.{ClashesWithin, MeetsWithin, Restriction, face_within, scope_of};
 
-use crate::{Atom, Dom, Found, Memory, Rule, State, Steps, Test, VarId};
-use dp_domain::{search_explanation, search_turn};
+use crate::{Atom, Dom, Found, Memory, Rule, State, Steps, Test, VarId, reasons, turns};
 use std::marker::Model;
 use std::sync::ledger::Ledger;
 use thiserror::Error;
@@ -151,7 +150,8 @@ impl Rule for Within {
         state: &State,
         steps: &mut Steps<L>,
     ) -> Result<Option<Found>, Memory> {
-        search_turn(self, state, steps)
+        steps.tick();
+        turns::restriction_turn(&self.cond, self.var, &self.set, state)
     }
 
     fn explain(
@@ -160,6 +160,6 @@ impl Rule for Within {
         now: &State,
         target: Option<Atom>,
     ) -> Result<Vec<Atom>, Memory> {
-        search_explanation(self, initial, now, target)
+        reasons::restriction_reasons(&self.cond, self.var, &self.set, initial, now, &target)
     }
 }
