@@ -1,2 +1,5 @@
 pub mod SpanSteps
 pub mod CrowdSteps
+pub mod TightLaws
+pub mod CutLaws
+pub mod BlockLaws

@@ -122,7 +122,7 @@ some_first : (ss : List (ℤ × ℤ)) → 1 ≤ length ss → (first : ℤ × �
 some_first [] h = absurd (omega arith)
 some_first (s ∷ ss) h = first_of s ss
 
-some_last : (ss : List (ℤ × ℤ)) → 1 ≤ length ss → (last : ℤ × ℤ) × Among last ss × ((t : ℤ × ℤ) → Among t ss → t.1 ≤ℤ last.1)
+pub some_last : (ss : List (ℤ × ℤ)) → 1 ≤ length ss → (last : ℤ × ℤ) × Among last ss × ((t : ℤ × ℤ) → Among t ss → t.1 ≤ℤ last.1)
 some_last [] h = absurd (omega arith)
 some_last (s ∷ ss) h = last_of s ss
 

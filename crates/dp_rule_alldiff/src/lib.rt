@@ -2,7 +2,10 @@
 #![tactic(auto)]
 
 mod all_diff;
+mod once;
 mod spans;
+mod tight;
+mod turn;
 
 pub use all_diff::AllDiff;
 pub use dp_domain::{Atom, Found, Memory, Rule, State, Steps, Term, Test, VarId};
