@@ -3,3 +3,5 @@ pub mod CrowdSteps
 pub mod TightLaws
 pub mod CutLaws
 pub mod BlockLaws
+pub mod OnceLaws
+pub mod FirstSteps

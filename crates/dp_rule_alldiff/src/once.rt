@@ -1,6 +1,6 @@
 // Terms of which each variable stands at one position alone.
 
-ghost use Rattle.std.specs.Prelude.{◌≡◌, ◌↔◌, IsTrue, length, [], ◌∷◌};
+ghost use Rattle.std.specs.Prelude.{◌≡◌, ◌↔◌, IsTrue, length};
 ghost use Rattle.dp_domain.specs.Terms.{term_scope, term_variables};
 ghost use Rattle.dp_rule_alldiff.specs.Once.{AreOnce};
 
@@ -18,16 +18,5 @@ pub fn stand_once(terms: &[Term], scope: &[VarId]) -> bool
 fn variables(terms: &[Term]) -> usize
     ensures { result ≡ length (term_variables terms.now) }
 {
-    let mut count = 0;
-    for term in terms {
-        count += variable_count(*term);
-    }
-    count
-}
-
-/// One for a variable.
-fn variable_count(term: Term) -> usize
-    ensures { result ≡ length (term_variables (term ∷ [])) }
-{
-    if term.variable().is_some() { 1 } else { 0 }
+    terms.iter().filter_map(|term| term.variable()).count()
 }
