@@ -1,6 +1,6 @@
 -- What tight intervals give on one variable is what the part gives on it.
 use Rattle.std.proofs.Common.{◌≡◌, ℕ, ◌<◌, Bool, true, false, not, cond, List, [], ◌∷◌, length, map, set, ℤ, pos, ◌+ℤ◌, ◌-ℤ◌, ◌≤ℤ◌, ◌<ℤ◌, int_le, int_lt, Option, Some, None, option_map, refl, sym, ◌∙◌, ap, subst, inl, inr, arith}
-use Rattle.std.specs.Prelude.{◌⊎◌, ◌&&◌, ◌==◌}
+use Rattle.std.specs.Prelude.{◌⊎◌, ◌&&◌, IfSome}
 use Rattle.std.specs.Option.{option_and_then}
 use Rattle.std.specs.List.{filter, filter_map, cons_option, list_any}
 use Rattle.std.proofs.lemmas.Bool.{both_ways, cases_Bool, and_parts, and_from, cond-true, cond-false}
@@ -199,7 +199,7 @@ split_option None y ys here = inr here
 split_option (Some z) y ys (inl e) = inl (ap Some (sym e))
 split_option (Some z) y ys (inr here) = inr here
 
-Among-filter_map_only : {A B : Type 0} (f : A → Option B) (xs : List A) (y : B) → Among y (filter_map f xs) → (x : A) × Among x xs × (f x ≡ Some y)
+pub Among-filter_map_only : {A B : Type 0} (f : A → Option B) (xs : List A) (y : B) → Among y (filter_map f xs) → (x : A) × Among x xs × (f x ≡ Some y)
 Among-filter_map_only f [] y here = absurd here
 Among-filter_map_only f (x ∷ xs) y here = elim (split_option (f x) y (filter_map f xs) here) [
   | inl e ↦ (x, inl refl, e)
@@ -214,13 +214,13 @@ some_greatest : (xs : List ℤ) (v : ℤ) → Among v xs → (m : ℤ) × (great
 some_greatest [] v here = absurd here
 some_greatest (x ∷ xs) v here = (greatest_from x xs, refl)
 
-least_some : (xs : List ℤ) (v : ℤ) → least xs ≡ None → Among v xs → ⊥
+pub least_some : (xs : List ℤ) (v : ℤ) → least xs ≡ None → Among v xs → ⊥
 least_some xs v e here = let r = some_least xs v here in none-some r.0 (sym e ∙ r.1)
 
 greatest_some : (xs : List ℤ) (v : ℤ) → greatest xs ≡ None → Among v xs → ⊥
 greatest_some xs v e here = let r = some_greatest xs v here in none-some r.0 (sym e ∙ r.1)
 
-kept_none : (p : ℤ → Bool) (xs : List ℤ) → ((v : ℤ) → Among v xs → p v ≡ true → ⊥) → filter p xs ≡ []
+pub kept_none : (p : ℤ → Bool) (xs : List ℤ) → ((v : ℤ) → Among v xs → p v ≡ true → ⊥) → filter p xs ≡ []
 kept_none p xs none = nil-from_test (filter p xs) (is_nil-none (filter p xs) (λ v here. let r = Among-filter_only p xs v here in none v r.0 r.1))
 
 -- the first of the tight intervals that hold the greatest value and not the least begins here; none is there where none holds it
@@ -264,6 +264,14 @@ first_over_by ss intervals l u (Some m) longest e =
 -- the least first number of the longest that are over is the first over
 pub first_over_is : (ss intervals : List (ℤ × ℤ)) (l u : ℤ) → AreLongest ss intervals → IsFirstOver ss l u (least (filter_map (start_over l u) intervals))
 first_over_is ss intervals l u longest = first_over_by ss intervals l u (least (filter_map (start_over l u) intervals)) longest refl
+
+-- it begins above the one number and no later than the other
+pub over_bounds : (intervals : List (ℤ × ℤ)) (l u : ℤ) (o : Option ℤ) → o ≡ least (filter_map (start_over l u) intervals) → IfSome o (λ m. (l <ℤ m) × (m ≤ℤ u))
+over_bounds intervals l u None e = tt
+over_bounds intervals l u (Some m) e =
+    let i = Among-filter_map_only (start_over l u) intervals m (least-among (filter_map (start_over l u) intervals) m (sym e)) in
+    let r = over_some l u m i.0 i.2 in
+    (subst (λ z. l <ℤ z) r.3 r.0, subst (λ z. z ≤ℤ u) r.3 r.1)
 
 -- ---- upper bounds
 
@@ -422,7 +430,7 @@ around_above ss vs l u v a b ends none here around = elim (cases_Bool (int_lt l 
       absurd (none a b (record { tight = around.tight; starts = starts; ends = le_through l v b (ends.from v here) around.ends; below = ends_below a b l u vs ends around.not_all starts }))
 ]
 
-in_some : (vs : List ℤ) (l m : ℤ) (i : ℤ × ℤ) → value_in vs l i ≡ Some m → (l <ℤ i.0) × (least (filter (is_between i.0 i.1) vs) ≡ Some m)
+pub in_some : (vs : List ℤ) (l m : ℤ) (i : ℤ × ℤ) → value_in vs l i ≡ Some m → (l <ℤ i.0) × (least (filter (is_between i.0 i.1) vs) ≡ Some m)
 in_some vs l m i e = elim (cases_Bool (int_lt l i.0)) [
   | inl k ↦ (less_where l i.0 k, sym (cond-true (int_lt l i.0) _ _ k) ∙ e)
   | inr k ↦ absurd (none-some m (sym (cond-false (int_lt l i.0) (least (filter (is_between i.0 i.1) vs)) None k) ∙ e))

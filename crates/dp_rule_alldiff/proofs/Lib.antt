@@ -5,3 +5,4 @@ pub mod CutLaws
 pub mod BlockLaws
 pub mod OnceLaws
 pub mod FirstSteps
+pub mod GivenLaws

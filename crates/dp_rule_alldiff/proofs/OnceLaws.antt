@@ -1,6 +1,7 @@
 -- Variables of which none stands again are as many as their scope has.
-use Rattle.std.specs.Prelude.{◌≡◌, ℕ, suc, ◌<◌, ◌≤◌, ◌⊎◌, List, [], ◌∷◌, length}
+use Rattle.std.specs.Prelude.{◌≡◌, ℕ, suc, ◌<◌, ◌≤◌, ◌⊎◌, List, [], ◌∷◌, length, nat_eq, IsTrue}
 use Rattle.std.proofs.Common.{refl, sym, ◌∙◌, ap, subst, inl, inr, arith}
+use Rattle.std.proofs.lemmas.Bool.Decides.{nat_tests}
 use Rattle.dp_base.specs.Lists.{Among, Each, Climbs}
 use Rattle.dp_base.specs.Scopes.{in_order, with_variable}
 use Rattle.dp_base.proofs.Lists.{Each-among}
@@ -78,3 +79,16 @@ as_many_where (x ∷ xs) once = elim (length_with x (in_order xs)) [
   | inl e ↦ ap suc (as_many_where xs once.1) ∙ sym e
   | inr r ↦ absurd (once.0 (among_in_order_out x xs r.1))
 ]
+
+-- the two counts, compared
+pub once_decided : (xs scope : List ℕ) (n : ℕ) → n ≡ length xs → scope ≡ in_order xs → (IsTrue (nat_eq n (length scope)) → AreOnce xs) × (AreOnce xs → IsTrue (nat_eq n (length scope)))
+once_decided xs scope n e f = (
+  λ t. once_where xs (sym e ∙ same n (length scope) t ∙ ap length f),
+  λ once. tested n (length scope) (e ∙ as_many_where xs once ∙ sym (ap length f)),
+)
+  where
+    same : (n m : ℕ) → IsTrue (nat_eq n m) → n ≡ m
+    same n m t = grind (arith, nat_tests)
+
+    tested : (n m : ℕ) → n ≡ m → IsTrue (nat_eq n m)
+    tested n m e = grind (arith, nat_tests)

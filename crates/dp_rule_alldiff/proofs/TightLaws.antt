@@ -4,20 +4,21 @@ use Rattle.std.specs.Prelude.{◌⊎◌, ◌&&◌}
 use Rattle.std.specs.List.{filter}
 use Rattle.std.proofs.lemmas.Bool.{false≢true, false_from_ne_true, both_ways, cases_Bool, cond-false, cond-true}
 use Rattle.std.proofs.lemmas.Int.{ints}
+use Rattle.std.proofs.lemmas.List.{drop_all, drop_more, take_more}
 use Rattle.std.proofs.lemmas.Option.{cond_some, same_Some, none-some}
 use Rattle.std.specs.Cmp.{both_ways as ways}
 use Rattle.dp_base.specs.Lists.{Among, Each}
-use Rattle.dp_base.proofs.Lists.{Among-filter_only, Among-filter_all, Each-among}
+use Rattle.dp_base.proofs.Lists.{Among-append_cases, Among-append_left, Among-append_right, Among-filter_only, Among-filter_all, Each-among}
 use Rattle.dp_domain.specs.Turns.{or_else}
 use Rattle.dp_domain.proofs.AtomLaws.{le-from_test, lt-from_test, test-from_le}
 use Rattle.dp_rule_alldiff.specs.AllDifferent.{Exceeds}
 use Rattle.dp_rule_alldiff.specs.CountLaws.{count-within, count-some, count_is}
 use Rattle.dp_rule_alldiff.specs.OrderLaws.{le_itself, le_through, not_both}
-use Rattle.dp_rule_alldiff.specs.SpanLaws.{crowd_at, crowd_some, inside_where, is_inside_where, some_last}
+use Rattle.dp_rule_alldiff.specs.SpanLaws.{Among-map_only, crowd_at, crowd_some, inside_where, is_inside_where, some_last}
 use Rattle.dp_rule_alldiff.specs.Spans.{AreInOrder, IsSpan, count_inside, has_crowd, is_inside}
 use Rattle.dp_rule_alldiff.specs.Tight.{AreLongest, IsReach, IsTight, interval_to, mirror, opposite}
 use Rattle.dp_rule_alldiff.proofs.CrowdSteps.{counts, ends_before, passes_over, some_inside}
-use Rattle.dp_rule_alldiff.proofs.SpanSteps.{count_same}
+use Rattle.dp_rule_alldiff.proofs.SpanSteps.{count_same, has_crowd_same, spans_same}
 
 -- ---- where none are crowded
 
@@ -283,15 +284,118 @@ tight_mirror ss a b tight = record {
 
 -- ---- spans in any order
 
-tight_same : (ss ts : List (ℤ × ℤ)) (a b : ℤ) → IsPermutation ss ts → IsTight ss a b → IsTight ts a b
-tight_same ss ts a b same tight = record { some = tight.some; full = tight.full ∙ ap pos (count_same ss ts same a b) }
+-- each interval holds as many of the spans
+abbrev pub HaveSameCounts : List (ℤ × ℤ) → List (ℤ × ℤ) → Type 0
+HaveSameCounts ss ts = (a b : ℤ) → count_inside ss a b ≡ count_inside ts a b
 
-tight_back : (ss ts : List (ℤ × ℤ)) (a b : ℤ) → IsPermutation ss ts → IsTight ts a b → IsTight ss a b
-tight_back ss ts a b same tight = record { some = tight.some; full = tight.full ∙ sym (ap pos (count_same ss ts same a b)) }
+-- the mirrored ones too
+pub mirror_same : (ss ts : List (ℤ × ℤ)) → HaveSameCounts ss ts → HaveSameCounts (map mirror ss) (map mirror ts)
+mirror_same ss ts same a b = mirror_count ss a b ∙ same (opposite b) (opposite a) ∙ sym (mirror_count ts a b)
+
+tight_same : (ss ts : List (ℤ × ℤ)) (a b : ℤ) → count_inside ss a b ≡ count_inside ts a b → IsTight ss a b → IsTight ts a b
+tight_same ss ts a b same tight = record { some = tight.some; full = tight.full ∙ ap pos same }
 
 -- the longest tight intervals are those of the spans in any order
-pub longest_back : (ss ts intervals : List (ℤ × ℤ)) → IsPermutation ss ts → AreLongest ts intervals → AreLongest ss intervals
-longest_back ss ts intervals same longest = record {
-  only = λ i here. tight_back ss ts i.0 i.1 same (longest.only i here);
-  all = λ a b tight. longest.all a b (tight_same ss ts a b same tight);
+pub longest_same : (ss ts intervals : List (ℤ × ℤ)) → HaveSameCounts ss ts → AreLongest ts intervals → AreLongest ss intervals
+longest_same ss ts intervals same longest = record {
+  only = λ i here. tight_same ts ss i.0 i.1 (sym (same i.0 i.1)) (longest.only i here);
+  all = λ a b tight. longest.all a b (tight_same ss ts a b (same a b) tight);
 }
+
+-- a tight interval begins with the first number of a span within it
+tight_first : (ss : List (ℤ × ℤ)) (a b : ℤ) → Each IsSpan ss → has_crowd ss ≡ false → IsTight ss a b → (s : ℤ × ℤ) × Among s ss × (s.0 ≡ a)
+tight_first ss a b each calm tight =
+    let last = tight_last (map mirror ss) (opposite b) (opposite a) (mirror_spans ss each) (mirror_calm ss each calm) (tight_mirror ss a b tight) in
+    let s = Among-map_only mirror ss last.0 last.1 in
+    (s.0, s.1, same s.0.0 a last.0.1 (ap (λ (t : ℤ × ℤ). t.1) s.2) last.3)
+  where
+    same : (x y z : ℤ) → z ≡ opposite x → z ≡ opposite y → x ≡ y
+    same x y z e f = omega (arith, ints)
+
+-- ---- one span more
+
+-- tight intervals, and from the first number of each of these spans a longest one
+pub record AreLongestFrom (ss ts intervals : List (ℤ × ℤ)) : Type 0 where
+  pub only : (i : ℤ × ℤ) → Among i intervals → IsTight ss i.0 i.1
+  pub all : (t : ℤ × ℤ) → Among t ts → (b : ℤ) → IsTight ss t.0 b → (c : ℤ) × Among (t.0, c) intervals × (b ≤ℤ c)
+
+pub longest_none : (ss : List (ℤ × ℤ)) → AreLongestFrom ss [] []
+longest_none ss = record { only = λ i here. absurd here; all = λ t here b tight. absurd here }
+
+tight_to : (ss : List (ℤ × ℤ)) (a : ℤ) (o : Option ℤ) (i : ℤ × ℤ) → IsReach ss a o → Among i (interval_to a o) → IsTight ss i.0 i.1
+tight_to ss a None i reach here = absurd here
+tight_to ss a (Some c) i reach (inl e) = subst (λ (j : ℤ × ℤ). IsTight ss j.0 j.1) (sym e) reach.0
+tight_to ss a (Some c) i reach (inr none) = absurd none
+
+long_enough : (ss : List (ℤ × ℤ)) (a b : ℤ) (o : Option ℤ) → IsReach ss a o → IsTight ss a b → (c : ℤ) × Among (a, c) (interval_to a o) × (b ≤ℤ c)
+long_enough ss a b None reach tight = absurd (reach b tight)
+long_enough ss a b (Some c) reach tight = (c, inl refl, reach.1 b tight)
+
+pub longest_more : (ss ts intervals : List (ℤ × ℤ)) (s : ℤ × ℤ) (o : Option ℤ) → AreLongestFrom ss ts intervals → IsReach ss s.0 o → AreLongestFrom ss (ts ++ s ∷ []) (intervals ++ interval_to s.0 o)
+longest_more ss ts intervals s o longest reach = record {
+  only = λ i here. elim (Among-append_cases i intervals (interval_to s.0 o) here) [
+    | inl before ↦ longest.only i before
+    | inr added ↦ tight_to ss s.0 o i reach added
+  ];
+  all = λ t here b tight. elim (Among-append_cases t ts (s ∷ []) here) [
+    | inl before ↦ let r = longest.all t before b tight in (r.0, Among-append_left (t.0, r.0) intervals (interval_to s.0 o) r.1, r.2)
+    | inr (inl e) ↦
+        let r = long_enough ss s.0 b o reach (subst (λ (u : ℤ × ℤ). IsTight ss u.0 b) e tight) in
+        (r.0, subst (λ (u : ℤ × ℤ). Among (u.0, r.0) (intervals ++ interval_to s.0 o)) (sym e) (Among-append_right (s.0, r.0) intervals (interval_to s.0 o) r.1), r.2)
+    | inr (inr none) ↦ absurd none
+  ];
+}
+
+-- the spans so far, one span on
+pub longest_step : (ss : List (ℤ × ℤ)) (i : ℕ) (s : ℤ × ℤ) (old new : List (ℤ × ℤ)) (o : Option ℤ) → i < length ss → AreLongestFrom ss (take i ss) old → IsReach ss (get_or ss i s).0 o → new ≡ old ++ interval_to (get_or ss i s).0 o → AreLongestFrom ss (take (i + 1) ss) new
+longest_step ss i s old new o h longest reach e =
+    subst (λ ts. AreLongestFrom ss ts new) (sym (take_more ss i s h))
+    (subst (λ is. AreLongestFrom ss (take i ss ++ get_or ss i s ∷ []) is) (sym e) (longest_more ss (take i ss) old (get_or ss i s) o longest reach))
+
+-- from the first number of each span, they are the longest of all
+pub longest_all : (ss intervals : List (ℤ × ℤ)) → Each IsSpan ss → has_crowd ss ≡ false → AreLongestFrom ss ss intervals → AreLongest ss intervals
+longest_all ss intervals each calm longest = record {
+  only = longest.only;
+  all = λ a b tight.
+      let s = tight_first ss a b each calm tight in
+      let r = longest.all s.0 s.1 b (subst (λ z. IsTight ss z b) (sym s.2) tight) in
+      (r.0, subst (λ z. Among (z, r.0) intervals) s.2 r.1, r.2);
+}
+
+-- ---- the pass in code
+
+-- what is left of a pass, one span on: it is passed over, or it is counted
+pub reaches_over : (ss : List (ℤ × ℤ)) (i : ℕ) (s : ℤ × ℤ) (a : ℤ) (n : ℕ) (o : Option ℤ) → i < length ss → int_le a (get_or ss i s).0 ≡ false → or_else (reaches a n (drop i ss)) o ≡ or_else (reaches a n (drop (i + 1) ss)) o
+reaches_over ss i s a n o h out = ap (λ ts. or_else (reaches a n ts) o) (drop_more ss i s h) ∙ ap (λ q. or_else q o) (cond-false (int_le a (get_or ss i s).0) _ _ out)
+
+chosen : (r o : Option ℤ) (b : Bool) (x : ℤ) → or_else (or_else r (cond b (Some x) None)) o ≡ or_else r (cond b (Some x) o)
+chosen None o true x = refl
+chosen None o false x = refl
+chosen (Some y) o b x = refl
+
+pub reaches_counted : (ss : List (ℤ × ℤ)) (i : ℕ) (s : ℤ × ℤ) (a : ℤ) (n : ℕ) (o p : Option ℤ) → i < length ss → int_le a (get_or ss i s).0 ≡ true → p ≡ cond (int_le (((get_or ss i s).1 -ℤ a) +ℤ pos 1) (pos (n + 1))) (Some (get_or ss i s).1) o → or_else (reaches a n (drop i ss)) o ≡ or_else (reaches a (n + 1) (drop (i + 1) ss)) p
+reaches_counted ss i s a n o p h from e =
+    ap (λ ts. or_else (reaches a n ts) o) (drop_more ss i s h) ∙ ap (λ q. or_else q o) (cond-true (int_le a (get_or ss i s).0) _ _ from)
+    ∙ chosen (reaches a (n + 1) (drop (i + 1) ss)) o (int_le (((get_or ss i s).1 -ℤ a) +ℤ pos 1) (pos (n + 1))) (get_or ss i s).1
+    ∙ ap (or_else (reaches a (n + 1) (drop (i + 1) ss))) (sym e)
+
+-- nothing is left at the end
+pub reaches_none : (ss : List (ℤ × ℤ)) (i : ℕ) (a : ℤ) (n : ℕ) (o : Option ℤ) → length ss ≤ i → or_else (reaches a n (drop i ss)) o ≡ o
+reaches_none ss i a n o h = ap (λ ts. or_else (reaches a n ts) o) (drop_all i ss h)
+
+-- a pass from a number that was read
+pub reach_read : (x a : ℤ) (ss : List (ℤ × ℤ)) (o : Option ℤ) → x ≡ a → AreInOrder ss → Each IsSpan ss → has_crowd ss ≡ false → reaches x 0 ss ≡ o → IsReach ss a o
+reach_read x a ss o e ordered spans calm k = subst (IsReach ss a) (sym (ap (λ z. reaches z 0 ss) e) ∙ k) (reach_is ss a ordered spans calm)
+
+-- ---- the mirrored spans in code
+
+pub mirrored_spans : (ss ms rs ts : List (ℤ × ℤ)) → ms ≡ map mirror ss → IsPermutation ms rs → ts ≡ rs → Each IsSpan ss → Each IsSpan ts
+mirrored_spans ss ms rs ts e same f each = subst (λ us. Each IsSpan us) (sym f) (spans_same ms rs same (subst (λ us. Each IsSpan us) (sym e) (mirror_spans ss each)))
+
+pub mirrored_calm : (ss ms rs ts : List (ℤ × ℤ)) → ms ≡ map mirror ss → IsPermutation ms rs → ts ≡ rs → Each IsSpan ss → has_crowd ss ≡ false → has_crowd ts ≡ false
+mirrored_calm ss ms rs ts e same f each calm =
+    ap has_crowd f ∙ has_crowd_same ms rs same (subst (λ us. Each IsSpan us) (sym e) (mirror_spans ss each)) ∙ ap has_crowd e ∙ mirror_calm ss each calm
+
+pub mirrored_longest : (ss ms rs ts intervals : List (ℤ × ℤ)) → ms ≡ map mirror ss → IsPermutation ms rs → ts ≡ rs → AreLongest ts intervals → AreLongest (map mirror ss) intervals
+mirrored_longest ss ms rs ts intervals e same f longest =
+    subst (λ us. AreLongest us intervals) e (longest_same ms rs intervals (count_same ms rs same) (subst (λ us. AreLongest us intervals) f longest))

@@ -96,7 +96,7 @@ crowded_where ss a b e = let both = and_parts (int_le a b) (int_lt ((b -ℤ a) +
 pub is_crowded_where : (ss : List (ℤ × ℤ)) (a b : ℤ) → Exceeds a b (count_inside ss a b) → is_crowded ss a b ≡ true
 is_crowded_where ss a b exceeds = and_from (int_le a b) (int_lt ((b -ℤ a) +ℤ pos 1) (pos (count_inside ss a b))) (test-from_le a b exceeds.some) (is_less_where ((b -ℤ a) +ℤ pos 1) (pos (count_inside ss a b)) exceeds.more)
 
-Among-map_only : {A B : Type 0} (f : A → B) (xs : List A) (z : B) → Among z (map f xs) → (x : A) × Among x xs × (z ≡ f x)
+pub Among-map_only : {A B : Type 0} (f : A → B) (xs : List A) (z : B) → Among z (map f xs) → (x : A) × Among x xs × (z ≡ f x)
 Among-map_only f [] z here = absurd here
 Among-map_only f (y ∷ ys) z (inl e) = (y, inl refl, e)
 Among-map_only f (y ∷ ys) z (inr here) = let r = Among-map_only f ys z here in (r.0, inr r.1, r.2)

@@ -60,25 +60,25 @@ fn longest(alloc: Global, spans: &[(i64, i64)]) -> Result<Vec<(i64, i64)>, Memor
     ensures { IfOk result (λ list. AreLongest spans.now list.items) }
 {
     let mut intervals = Vec::new(alloc);
-    for (first, _) in spans {
-        push_longest(&mut intervals, *first, spans)?;
+    for span in spans {
+        push_longest(&mut intervals, span, spans)?;
     }
     Ok(intervals)
 }
 
-/// Adds the longest tight interval from the number on, if one is tight.
+/// Adds the longest tight interval from the first number of the span on, if one is tight.
 fn push_longest(
     intervals: &mut Vec<(i64, i64)>,
-    first: i64,
+    span: &(i64, i64),
     spans: &[(i64, i64)],
 ) -> Result<(), Memory>
     requires order { AreInOrder spans.now }
     requires spans { Each IsSpan spans.now }
     requires calm { has_crowd spans.now ≡ false }
-    ensures { OnOk result ((last : Option ℤ) × IsReach spans.now first last × (intervals.new.items ≡ intervals.old.items ++ interval_to first last)) }
+    ensures { OnOk result ((last : Option ℤ) × IsReach spans.now span.now.0 last × (intervals.new.items ≡ intervals.old.items ++ interval_to span.now.0 last)) }
 {
-    if let Some(last) = reach(first, spans) {
-        intervals.push((first, last))?;
+    if let Some(last) = reach(span.0, spans) {
+        intervals.push((span.0, last))?;
     }
     Ok(())
 }

@@ -1,9 +1,8 @@
 // The turn of terms that differ, by tight intervals.
 
-ghost use Rattle.std.specs.Prelude.{◌≡◌, ◌<◌, ◌≤ℤ◌, ◌<ℤ◌, false, length, filter, IfOk, IfSome, option_map};
+ghost use Rattle.std.specs.Prelude.{◌≡◌, ◌≤ℤ◌, ◌<ℤ◌, false, filter, IfOk, IfSome, None, Some, if◌then◌else◌, int_le, option_map};
 ghost use Rattle.std.specs.List.{filter_map};
-ghost use Rattle.dp_base.specs.Lists.{Each};
-ghost use Rattle.dp_domain.specs.Atoms.{Atomic};
+ghost use Rattle.std.specs.Option.{option_and_then};
 ghost use Rattle.dp_domain.specs.Faces.{Covers};
 ghost use Rattle.dp_domain.specs.Sets.{IsDomain, IsSmall, least};
 ghost use Rattle.dp_domain.specs.States.{is_dead};
@@ -76,6 +75,7 @@ fn atom(var: VarId, op: Op, value: Option<i64>) -> Option<Atom>
 
 /// The least value after all tight intervals that hold the least value and not the greatest.
 fn lower_in(to: &[(i64, i64)], set: &Dom, lower: i64, upper: i64) -> Option<i64>
+    requires domain { IsDomain set.now }
     requires lower { IsSmall lower }
     requires upper { IsSmall upper }
     ensures value { result ≡ lower_in to.now set.now lower upper }
@@ -87,6 +87,7 @@ fn lower_in(to: &[(i64, i64)], set: &Dom, lower: i64, upper: i64) -> Option<i64>
 
 /// The greatest value before all tight intervals that hold the greatest value and not the least.
 fn upper_in(from: &[(i64, i64)], set: &Dom, lower: i64, upper: i64) -> Option<i64>
+    requires domain { IsDomain set.now }
     requires lower { IsSmall lower }
     requires upper { IsSmall upper }
     ensures value { result ≡ upper_in from.now set.now lower upper }
@@ -98,6 +99,7 @@ fn upper_in(from: &[(i64, i64)], set: &Dom, lower: i64, upper: i64) -> Option<i6
 
 /// The least value in a tight interval that begins above the least.
 fn hole_in(from: &[(i64, i64)], set: &Dom, lower: i64) -> Option<i64>
+    requires { IsDomain set.now }
     ensures value { result ≡ hole_in from.now set.now lower }
     ensures small { IfSome result IsSmall }
 {
@@ -113,21 +115,26 @@ fn value_in(set: &Dom, lower: i64, interval: &(i64, i64)) -> Option<i64>
     ensures { result ≡ value_in set.now lower interval.now }
 {
     if lower < interval.0 {
-        least_between(set, interval)
+        least_between(set, interval.0, interval.1)
     } else {
         None
     }
 }
 
-/// The least value in the interval.
-fn least_between(set: &Dom, interval: &(i64, i64)) -> Option<i64>
-    ensures { result ≡ least (filter (is_between interval.now.0 interval.now.1) set.now) }
+/// The least value from the first number to the last.
+fn least_between(set: &Dom, first: i64, last: i64) -> Option<i64>
+    ensures { result ≡ least (filter (is_between first last) set.now) }
 {
-    let value = set.least_from(interval.0)?;
-    if value <= interval.1 {
-        Some(value)
-    } else {
-        None
+    no_more(set.least_from(first), last)
+}
+
+/// The number, where it is at most the last.
+fn no_more(value: Option<i64>, last: i64) -> Option<i64>
+    ensures { result ≡ option_and_then (λ v. if int_le v last then Some v else None) value }
+{
+    match value {
+        Some(number) => if number <= last { Some(number) } else { None },
+        None => None,
     }
 }
 
