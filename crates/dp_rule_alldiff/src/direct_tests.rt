@@ -79,16 +79,19 @@ fn terms(alloc: Global, terms: &[Term]) -> Result<Option<Found>, Memory> {
 
 #[test]
 fn numbers(rt: HostRuntime) -> Result<(), Fail> {
-    let number = Term::Const;
-    for (others, wanted) in [
-        ([X, number(0), number(9)], Some((0, Op::Ge, 1))),
-        ([X, number(i64::MIN), number(i64::MAX)], None),
-        ([X, Y, number(3)], Some((0, Op::Ne, 3))),
-        ([Y, Z, number(3)], Some((1, Op::Ge, 4))),
-        ([Z, number(5), number(6)], Some((2, Op::Le, 4))),
-        ([X, X, number(0)], Some((0, Op::Ge, 2))),
+    for (one, two, three, wanted) in [
+        (X, Term::Const(0), Term::Const(9), Some((0, Op::Ge, 1))),
+        (X, Term::Const(i64::MIN), Term::Const(i64::MAX), None),
+        (X, Y, Term::Const(3), Some((0, Op::Ne, 3))),
+        (Y, Z, Term::Const(3), Some((1, Op::Ge, 4))),
+        (Z, Term::Const(5), Term::Const(6), Some((2, Op::Le, 4))),
+        (X, X, Term::Const(0), Some((0, Op::Ge, 2))),
     ] {
-        assert_eq!(rt; terms(rt.alloc(), &others)?, giving(wanted), "{others:?}");
+        assert_eq!(rt;
+            terms(rt.alloc(), &[one, two, three])?,
+            giving(wanted),
+            "{one:?} {two:?} {three:?}"
+        );
     }
     Ok(())
 }
