@@ -1,8 +1,8 @@
 -- What tight intervals give on one variable is what the part gives on it.
-use Rattle.std.proofs.Common.{◌≡◌, ℕ, ◌<◌, Bool, true, false, not, cond, List, [], ◌∷◌, length, map, set, ℤ, pos, ◌+ℤ◌, ◌-ℤ◌, ◌≤ℤ◌, ◌<ℤ◌, int_le, int_lt, Option, Some, None, option_map, refl, sym, ◌∙◌, ap, subst, inl, inr, arith}
+use Rattle.std.proofs.Common.{◌≡◌, ℕ, Bool, true, false, not, List, [], ◌∷◌, map, ℤ, pos, ◌+ℤ◌, ◌-ℤ◌, ◌≤ℤ◌, ◌<ℤ◌, int_le, int_lt, Option, Some, None, option_map, refl, sym, ◌∙◌, ap, subst, inl, inr, arith}
 use Rattle.std.specs.Prelude.{◌⊎◌, ◌&&◌, IfSome}
 use Rattle.std.specs.Option.{option_and_then}
-use Rattle.std.specs.List.{filter, filter_map, cons_option, list_any}
+use Rattle.std.specs.List.{filter, filter_map, cons_option}
 use Rattle.std.proofs.lemmas.Bool.{both_ways, cases_Bool, and_parts, and_from, cond-true, cond-false}
 use Rattle.std.proofs.lemmas.Int.{ints}
 use Rattle.std.proofs.lemmas.Option.{cond_some, none-some}
@@ -10,10 +10,9 @@ use Rattle.dp_base.specs.Lists.{Among}
 use Rattle.dp_base.proofs.Lists.{Among-filter_only, Among-filter_all}
 use Rattle.dp_domain.specs.Atoms.{Atomic, meets, negated}
 use Rattle.dp_domain.specs.Sets.{least, greatest, least_from, greatest_from}
-use Rattle.dp_domain.specs.States.{Domains, cut, entails, values}
-use Rattle.dp_domain.specs.Terms.{term_values}
+use Rattle.dp_domain.specs.States.{Domains, values}
 use Rattle.dp_domain.specs.declared.term.Term.{Term}
-use Rattle.dp_domain.specs.Turns.{at_least, at_most, given_on, gives, new_hole, new_lower, new_upper, or_else, other_than}
+use Rattle.dp_domain.specs.Turns.{at_least, at_most, given_on, gives, new_hole, new_upper, or_else, other_than}
 use Rattle.dp_domain.proofs.AtomLaws.{le-from_test, lt-from_test, test-from_le, test-from_lt, same-from_tests, tests-from_same}
 use Rattle.dp_domain.proofs.SetLaws.{greatest-is, least-among, least-bound, least-is, least_from-bound}
 use Rattle.dp_domain.proofs.StateLaws.{entails-fails, entails-not, is_nil-none, nil-from_test}
@@ -23,8 +22,8 @@ use Rattle.dp_rule_alldiff.specs.OrderLaws.{is_less_where, le_through, less_wher
 use Rattle.dp_rule_alldiff.specs.PigeonLaws.{between_where, is_between_where}
 use Rattle.dp_rule_alldiff.specs.Spans.{spans_of}
 use Rattle.dp_rule_alldiff.specs.Tight.{AreLongest, IsTight, hole_in, lower_in, mirror, opposite, start_over, upper_in, value_in}
-use Rattle.dp_rule_alldiff.proofs.CutLaws.{Blocks, IsCalm, blocks_clash, clash_blocks, lies_at, lies_from, lies_not}
-use Rattle.dp_rule_alldiff.proofs.TightLaws.{opposite_twice, tight_mirror, tight_mirrored}
+use Rattle.dp_rule_alldiff.proofs.CutLaws.{IsCalm, blocks_clash, clash_blocks, lies_at, lies_from, lies_not}
+use Rattle.dp_rule_alldiff.proofs.TightLaws.{tight_mirror, tight_mirrored}
 
 -- ---- the ends of a set
 

@@ -1,11 +1,10 @@
 -- A cut of a variable that stands at one position: it clashes where a tight interval that does not hold all its values holds those that are left.
-use Rattle.std.proofs.Common.{◌≡◌, ℕ, suc, ◌+◌, ◌<◌, ◌≤◌, Bool, true, false, cond, List, [], ◌∷◌, length, get_or, set, ℤ, pos, ◌+ℤ◌, ◌-ℤ◌, ◌≤ℤ◌, ◌<ℤ◌, int_lt, refl, sym, ◌∙◌, ap, subst, inl, inr, arith}
-use Rattle.std.specs.Prelude.{◌⊎◌, ◌||◌}
-use Rattle.std.specs.List.{filter, list_all}
+use Rattle.std.proofs.Common.{◌≡◌, ℕ, suc, ◌+◌, ◌<◌, Bool, true, false, cond, List, [], ◌∷◌, length, set, ℤ, pos, ◌+ℤ◌, ◌-ℤ◌, ◌≤ℤ◌, ◌<ℤ◌, int_lt, refl, sym, ◌∙◌, ap, subst, inl, inr, arith}
+use Rattle.std.specs.Prelude.{◌⊎◌}
 use Rattle.std.proofs.lemmas.Bool.{false≢true, false_from_ne_true, both_ways, cases_Bool, cases_eq, or_cases, or_right}
 use Rattle.std.proofs.lemmas.Int.{ints}
 use Rattle.std.proofs.lemmas.List.{length-set, get_or-set_same, get_or-set_other}
-use Rattle.dp_base.specs.Lists.{Among, Each}
+use Rattle.dp_base.specs.Lists.{Among}
 use Rattle.dp_base.proofs.Lists.{list_all-at, list_all-from}
 use Rattle.dp_domain.specs.States.{Domains, is_dead, values}
 use Rattle.dp_domain.specs.Terms.{term_values, term_variables}
@@ -18,7 +17,7 @@ use Rattle.dp_rule_alldiff.specs.Once.{AreOnce}
 use Rattle.dp_rule_alldiff.specs.OrderLaws.{less_where, no_less_where}
 use Rattle.dp_rule_alldiff.specs.PigeonLaws.{between_where, exceeds_same, is_between_where}
 use Rattle.dp_rule_alldiff.specs.SpanLaws.{crowd_at, crowd_some, positions_inside, spans_ordered}
-use Rattle.dp_rule_alldiff.specs.Spans.{IsSpan, count_inside, has_crowd, spans_of}
+use Rattle.dp_rule_alldiff.specs.Spans.{count_inside, has_crowd, spans_of}
 use Rattle.dp_rule_alldiff.specs.Tight.{IsTight}
 use Rattle.dp_rule_alldiff.proofs.TightLaws.{no_more}
 

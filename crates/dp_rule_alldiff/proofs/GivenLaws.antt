@@ -1,15 +1,12 @@
 -- The turn by tight intervals is the turn of the part.
-use Rattle.std.proofs.Common.{◌≡◌, ℕ, ◌+◌, ◌<◌, Bool, true, false, List, [], ◌∷◌, length, drop, map, ℤ, ◌≤ℤ◌, int_le, Option, Some, None, option_map, is_some, slice_get, IsPermutation, refl, sym, ◌∙◌, ap, subst, inl, inr, arith}
-use Rattle.std.specs.Prelude.{◌||◌, ◌==◌, cond, get_or, IfSome}
-use Rattle.std.specs.List.{filter, list_any}
-use Rattle.std.proofs.lemmas.Bool.{cases_Bool, cond-false, cond-true, or_right}
-use Rattle.std.proofs.lemmas.Int.{ints}
-use Rattle.std.proofs.lemmas.List.{drop_all, drop_more}
+use Rattle.std.proofs.Common.{◌≡◌, ℕ, ◌+◌, ◌<◌, Bool, true, false, List, [], ◌∷◌, length, drop, map, ℤ, Option, Some, None, option_map, is_some, IsPermutation, refl, sym, ◌∙◌, ap, subst, inl, inr, arith}
+use Rattle.std.specs.Prelude.{◌||◌, ◌==◌, get_or}
+use Rattle.std.proofs.lemmas.Bool.{cond-false, cond-true, or_right}
+use Rattle.std.proofs.lemmas.List.{drop_more}
 use Rattle.dp_base.specs.Lists.{Among, Each}
 use Rattle.dp_base.proofs.Lists.{list_any-at}
 use Rattle.dp_base.proofs.ScopeLaws.{among_in_order_out}
 use Rattle.dp_domain.specs.Atoms.{Atomic}
-use Rattle.dp_domain.specs.declared.found.Found.{Found}
 use Rattle.dp_domain.specs.declared.found.Found.TheVariants.{Clash, Atom}
 use Rattle.dp_domain.specs.Faces.{Covers}
 use Rattle.dp_domain.specs.Sets.{least_from, greatest_from}

@@ -1,8 +1,8 @@
 -- Variables of which none stands again are as many as their scope has.
 use Rattle.std.specs.Prelude.{◌≡◌, ℕ, suc, ◌<◌, ◌≤◌, ◌⊎◌, List, [], ◌∷◌, length, nat_eq, IsTrue}
-use Rattle.std.proofs.Common.{refl, sym, ◌∙◌, ap, subst, inl, inr, arith}
+use Rattle.std.proofs.Common.{refl, sym, ◌∙◌, ap, inl, inr, arith}
 use Rattle.std.proofs.lemmas.Bool.Decides.{nat_tests}
-use Rattle.dp_base.specs.Lists.{Among, Each, Climbs}
+use Rattle.dp_base.specs.Lists.{Among, Climbs}
 use Rattle.dp_base.specs.Scopes.{in_order, with_variable}
 use Rattle.dp_base.proofs.Lists.{Each-among}
 use Rattle.dp_base.proofs.ScopeLaws.{among_in_order, among_in_order_out, climbs_in_order, order_of, with_variable-after, with_variable-before, with_variable-same}

@@ -1,6 +1,6 @@
 -- Tight intervals: where they end, what one pass finds of them, in any order of the spans and in the reversed order of numbers.
-use Rattle.std.proofs.Common.{◌≡◌, ℕ, zero, suc, ◌+◌, ◌<◌, ◌≤◌, Bool, true, false, cond, List, [], ◌∷◌, ◌++◌, length, get_or, take, drop, map, ℤ, pos, neg_ℤ, ◌+ℤ◌, ◌-ℤ◌, ◌≤ℤ◌, ◌<ℤ◌, int_le, Option, Some, None, IsPermutation, refl, sym, ◌∙◌, ap, subst, inl, inr, arith}
-use Rattle.std.specs.Prelude.{◌⊎◌, ◌&&◌}
+use Rattle.std.proofs.Common.{◌≡◌, ℕ, zero, suc, ◌+◌, ◌<◌, ◌≤◌, Bool, true, false, cond, List, [], ◌∷◌, ◌++◌, length, get_or, take, drop, map, ℤ, pos, ◌+ℤ◌, ◌-ℤ◌, ◌≤ℤ◌, ◌<ℤ◌, int_le, Option, Some, None, IsPermutation, refl, sym, ◌∙◌, ap, subst, inl, inr, arith}
+use Rattle.std.specs.Prelude.{◌⊎◌}
 use Rattle.std.specs.List.{filter}
 use Rattle.std.proofs.lemmas.Bool.{false≢true, false_from_ne_true, both_ways, cases_Bool, cond-false, cond-true}
 use Rattle.std.proofs.lemmas.Int.{ints}
@@ -12,7 +12,7 @@ use Rattle.dp_base.proofs.Lists.{Among-append_cases, Among-append_left, Among-ap
 use Rattle.dp_domain.specs.Turns.{or_else}
 use Rattle.dp_domain.proofs.AtomLaws.{le-from_test, lt-from_test, test-from_le}
 use Rattle.dp_rule_alldiff.specs.AllDifferent.{Exceeds}
-use Rattle.dp_rule_alldiff.specs.CountLaws.{count-within, count-some, count_is}
+use Rattle.dp_rule_alldiff.specs.CountLaws.{count-within}
 use Rattle.dp_rule_alldiff.specs.OrderLaws.{le_itself, le_through, not_both}
 use Rattle.dp_rule_alldiff.specs.SpanLaws.{Among-map_only, crowd_at, crowd_some, inside_where, is_inside_where, some_last}
 use Rattle.dp_rule_alldiff.specs.Spans.{AreInOrder, IsSpan, count_inside, has_crowd, is_inside}

@@ -1,8 +1,4 @@
 -- The mirrored spans are spans, of which none are crowded, in any order.
-use Rattle.std.proofs.Common.{map, ap, subst, sym, ◌∙◌}
-use Rattle.dp_base.specs.Lists.{Each}
-use Rattle.dp_rule_alldiff.specs.Spans.{IsSpan, has_crowd}
-use Rattle.dp_rule_alldiff.specs.Tight.{AreLongest, mirror}
 use Rattle.dp_rule_alldiff.proofs.TightLaws.{mirrored_calm, mirrored_longest, mirrored_spans}
 use Rattle.dp_rule_alldiff.proofs.tight.tight_intervals.Goals as goal
 

@@ -1,9 +1,7 @@
 -- One interval more.
-use Rattle.std.proofs.Common.{pos, sym, ◌∙◌, ap}
-use Rattle.std.specs.List.{filter_map}
+use Rattle.std.proofs.Common.{pos}
 use Rattle.std.proofs.lemmas.Int.{to_z-of_z}
 use mir.Syntax.{w64}
-use Rattle.dp_domain.specs.Sets.{least}
 use Rattle.dp_rule_alldiff.specs.Tight.{start_over}
 use Rattle.dp_rule_alldiff.proofs.BlockLaws.{over_bounds}
 use Rattle.dp_rule_alldiff.proofs.FirstSteps.{least_all, least_step, over_same}

@@ -1,5 +1,5 @@
 -- One interval more.
-use Rattle.std.proofs.Common.{pos, sym, ◌∙◌, ap}
+use Rattle.std.proofs.Common.{pos}
 use Rattle.dp_rule_alldiff.specs.Tight.{value_in}
 use Rattle.dp_rule_alldiff.proofs.FirstSteps.{least_all, least_step, small_hole}
 use Rattle.dp_rule_alldiff.proofs.turn.hole_in.Goals as goal
