@@ -22,22 +22,22 @@ overfills a n (s ∷ ss) = cond (int_le a s.0) (int_lt ((s.1 -ℤ a) +ℤ pos 1)
 -- ---- one step
 
 -- a span inside is counted
-counts : (s : ℤ × ℤ) (ss : List (ℤ × ℤ)) (a b : ℤ) → a ≤ℤ s.0 → s.1 ≤ℤ b → count_inside (s ∷ ss) a b ≡ suc (count_inside ss a b)
+pub counts : (s : ℤ × ℤ) (ss : List (ℤ × ℤ)) (a b : ℤ) → a ≤ℤ s.0 → s.1 ≤ℤ b → count_inside (s ∷ ss) a b ≡ suc (count_inside ss a b)
 counts s ss a b h k = count_is (is_inside a b) s ss true (is_inside_where a b s h k)
 
 -- and one outside is not
-passes_over : (s : ℤ × ℤ) (ss : List (ℤ × ℤ)) (a b : ℤ) → (a ≤ℤ s.0 → s.1 ≤ℤ b → ⊥) → count_inside (s ∷ ss) a b ≡ count_inside ss a b
+pub passes_over : (s : ℤ × ℤ) (ss : List (ℤ × ℤ)) (a b : ℤ) → (a ≤ℤ s.0 → s.1 ≤ℤ b → ⊥) → count_inside (s ∷ ss) a b ≡ count_inside ss a b
 passes_over s ss a b out = elim (cases_Bool (is_inside a b s)) [
   | inl e ↦ let inside = inside_where a b s e in absurd (out inside.0 inside.1)
   | inr e ↦ count_is (is_inside a b) s ss false e
 ]
 
-some_inside : (ss : List (ℤ × ℤ)) → 1 ≤ length ss → (t : ℤ × ℤ) × Among t ss
+pub some_inside : (ss : List (ℤ × ℤ)) → 1 ≤ length ss → (t : ℤ × ℤ) × Among t ss
 some_inside [] h = absurd (omega arith)
 some_inside (s ∷ ss) h = (s, inl refl)
 
 -- a span before one inside ends there too
-ends_before : (s : ℤ × ℤ) (ss : List (ℤ × ℤ)) (a b : ℤ) → Each (λ (t : ℤ × ℤ). s.1 ≤ℤ t.1) ss → 1 ≤ count_inside ss a b → s.1 ≤ℤ b
+pub ends_before : (s : ℤ × ℤ) (ss : List (ℤ × ℤ)) (a b : ℤ) → Each (λ (t : ℤ × ℤ). s.1 ≤ℤ t.1) ss → 1 ≤ count_inside ss a b → s.1 ≤ℤ b
 ends_before s ss a b later some =
     let t = some_inside (filter (is_inside a b) ss) some in
     let there = Among-filter_only (is_inside a b) ss t.0 t.1 in

@@ -46,7 +46,8 @@ sorted_in_order ss sorted =
 
 -- ---- the same spans
 
-count_same : (ss ts : List (ℤ × ℤ)) → IsPermutation ss ts → (a b : ℤ) → count_inside ss a b ≡ count_inside ts a b
+-- as many lie in an interval in any order
+pub count_same : (ss ts : List (ℤ × ℤ)) → IsPermutation ss ts → (a b : ℤ) → count_inside ss a b ≡ count_inside ts a b
 count_same ss ts same a b =
     length-filter (is_inside a b) ss ∙ sym (sum_by-IsPermutation _ ss ts same) ∙ sym (length-filter (is_inside a b) ts)
 

@@ -1,5 +1,7 @@
 pub mod Spans
 pub mod AllDifferent
+pub mod Tight
+pub mod Once
 pub mod OrderLaws
 pub mod CountLaws
 pub mod PigeonLaws

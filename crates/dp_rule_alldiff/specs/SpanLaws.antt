@@ -96,7 +96,7 @@ crowded_where ss a b e = let both = and_parts (int_le a b) (int_lt ((b -ℤ a) +
 pub is_crowded_where : (ss : List (ℤ × ℤ)) (a b : ℤ) → Exceeds a b (count_inside ss a b) → is_crowded ss a b ≡ true
 is_crowded_where ss a b exceeds = and_from (int_le a b) (int_lt ((b -ℤ a) +ℤ pos 1) (pos (count_inside ss a b))) (test-from_le a b exceeds.some) (is_less_where ((b -ℤ a) +ℤ pos 1) (pos (count_inside ss a b)) exceeds.more)
 
-Among-map_only : {A B : Type 0} (f : A → B) (xs : List A) (z : B) → Among z (map f xs) → (x : A) × Among x xs × (z ≡ f x)
+pub Among-map_only : {A B : Type 0} (f : A → B) (xs : List A) (z : B) → Among z (map f xs) → (x : A) × Among x xs × (z ≡ f x)
 Among-map_only f [] z here = absurd here
 Among-map_only f (y ∷ ys) z (inl e) = (y, inl refl, e)
 Among-map_only f (y ∷ ys) z (inr here) = let r = Among-map_only f ys z here in (r.0, inr r.1, r.2)
@@ -122,7 +122,7 @@ some_first : (ss : List (ℤ × ℤ)) → 1 ≤ length ss → (first : ℤ × �
 some_first [] h = absurd (omega arith)
 some_first (s ∷ ss) h = first_of s ss
 
-some_last : (ss : List (ℤ × ℤ)) → 1 ≤ length ss → (last : ℤ × ℤ) × Among last ss × ((t : ℤ × ℤ) → Among t ss → t.1 ≤ℤ last.1)
+pub some_last : (ss : List (ℤ × ℤ)) → 1 ≤ length ss → (last : ℤ × ℤ) × Among last ss × ((t : ℤ × ℤ) → Among t ss → t.1 ≤ℤ last.1)
 some_last [] h = absurd (omega arith)
 some_last (s ∷ ss) h = last_of s ss
 

@@ -4,7 +4,7 @@ ghost use Rattle.std.specs.Prelude.{◌≡◌, IfOk};
 ghost use Rattle.dp_rule_alldiff.specs.AllDifferent.{ClashesAllDifferent, MeetsAllDifferent, face_all_different};
 ghost use Rattle.dp_rule_alldiff.specs.AllDifferentLaws.{all_different_deciding, all_different_exact, all_different_lawful, all_different_sound};
 
-use crate::{Atom, Found, Memory, Rule, State, Steps, Term, Test, VarId, spans};
+use crate::{Atom, Found, Memory, Rule, State, Steps, Term, Test, VarId, once, spans, turn};
 use dp_domain::{search_explanation, search_turn, term_scope};
 use std::alloc::Global;
 use std::marker::Model;
@@ -85,12 +85,17 @@ impl Test for AllDiff {
 }
 
 impl Rule for AllDiff {
+    /// It takes time in the square of the number of terms, where each variable stands at one position.
     fn next<L: Ledger>(
         &self,
         state: &State,
         steps: &mut Steps<L>,
     ) -> Result<Option<Found>, Memory> {
-        search_turn(self, state, steps)
+        if !once::stand_once(&self.terms, &self.scope) {
+            return search_turn(self, state, steps);
+        }
+        steps.tick();
+        turn::found(&self.terms, &self.scope, state)
     }
 
     fn explain(

@@ -2,11 +2,16 @@
 #![tactic(auto)]
 
 mod all_diff;
+mod once;
 mod spans;
+mod tight;
+mod turn;
 
 pub use all_diff::AllDiff;
 pub use dp_domain::{Atom, Found, Memory, Rule, State, Steps, Term, Test, VarId};
 
+#[cfg(test)]
+mod direct_tests;
 #[cfg(test)]
 mod tests;
 #[cfg(test)]

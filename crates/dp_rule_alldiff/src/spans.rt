@@ -59,7 +59,7 @@ pub fn has_crowd(spans: Vec<(i64, i64)>) -> bool
 }
 
 /// The same spans by their last numbers.
-fn in_order(spans: Vec<(i64, i64)>) -> Vec<(i64, i64)>
+pub fn in_order(spans: Vec<(i64, i64)>) -> Vec<(i64, i64)>
     ensures order { AreInOrder result.items }
     ensures same { IsPermutation spans.items result.items }
 {
@@ -69,7 +69,7 @@ fn in_order(spans: Vec<(i64, i64)>) -> Vec<(i64, i64)>
 }
 
 /// Whether some interval has more of the spans within it than it has numbers.
-fn finds_crowd(spans: &[(i64, i64)]) -> bool
+pub fn finds_crowd(spans: &[(i64, i64)]) -> bool
     requires order { AreInOrder spans.now }
     requires spans { Each IsSpan spans.now }
     ensures { result ≡ has_crowd spans.now }
@@ -101,7 +101,7 @@ fn is_crowded_from(first: i64, spans: &[(i64, i64)]) -> bool
 }
 
 /// Whether the span begins with the number or later.
-fn begins_from(first: i64, span: &(i64, i64)) -> bool
+pub fn begins_from(first: i64, span: &(i64, i64)) -> bool
     ensures { result ≡ int_le first span.now.0 }
 {
     first <= span.0
@@ -115,7 +115,7 @@ fn is_exceeded(first: i64, span: &(i64, i64), count: usize) -> bool
 }
 
 /// How many numbers there are from the first to the last; at most 0 where the last comes first.
-fn size(first: i64, last: i64) -> i128
+pub fn size(first: i64, last: i64) -> i128
     ensures { result ≡ (last -ℤ first) +ℤ pos 1 }
 {
     i128::from(last) - i128::from(first) + 1
