@@ -1,5 +1,5 @@
 -- Profiles: how much tasks use wherever they start.
-use Rattle.std.specs.Prelude.{◌≡◌, ℕ, ◌+◌, ◌^◌, nat_lt, Bool, true, false, ◌&&◌, Option, Some, None, option_map, List, [], ◌∷◌, map, ℤ, pos, neg_ℤ, ◌+ℤ◌, ◌-ℤ◌, ◌≤ℤ◌, int_le}
+use Rattle.std.specs.Prelude.{◌≡◌, ℕ, ◌+◌, ◌^◌, ◌==◌, nat_lt, Bool, true, false, ◌&&◌, ◌⊎◌, is_some, Option, Some, None, option_map, unwrap_or, List, [], ◌∷◌, map, ℤ, pos, neg_ℤ, ◌+ℤ◌, ◌-ℤ◌, ◌≤ℤ◌, int_le}
 use Rattle.std.specs.Int.{int_max, int_min}
 use Rattle.std.specs.List.{filter, list_any, sum_by}
 use Rattle.std.specs.Option.{option_map_or}
@@ -10,7 +10,7 @@ use Rattle.dp_domain.specs.States.{Domains, values}
 use Rattle.dp_domain.specs.Turns.{at_least, at_most, or_else}
 use Rattle.dp_domain.specs.declared.term.Term.{Term}
 use Rattle.dp_domain.specs.declared.term.Term.TheVariants.{Var, Const}
-use Rattle.dp_rule_cumulative.specs.Schedules.{earliest_end, earliest_start, latest_start}
+use Rattle.dp_rule_cumulative.specs.Schedules.{earliest_end, latest_start}
 use Rattle.dp_rule_cumulative.specs.declared.profile.Edges.{Edges}
 use Rattle.dp_rule_cumulative.specs.declared.profile.Part.{Part}
 use Rattle.dp_rule_cumulative.specs.declared.demand.Demand.{Demand}
@@ -82,13 +82,21 @@ starts_in w edges = map (λ e. e.start) (filter (λ e. lacks_room w e.start e.at
 
 -- ---- what is given on the start of a task
 
+-- the first start of these; 0 where there is none
+abbrev pub first_start : List ℤ → ℤ
+first_start xs = unwrap_or (least xs) (pos 0)
+
+-- the last start of these; 0 where there is none
+abbrev pub last_start : List ℤ → ℤ
+last_start xs = unwrap_or (greatest xs) (pos 0)
+
 -- what the task demands at the times at which it runs if it starts as early as it may, before those at which it must run
-abbrev pub early_demand : ℕ → Domains → Task → Demand
-early_demand capacity d k = record { from = earliest_start d k; last = int_min (latest_start d k) (earliest_end d k) -ℤ pos 1; usage = k.usage; capacity = capacity }
+abbrev pub early_demand : ℤ → ℤ → ℕ → Task → Demand
+early_demand first last capacity k = record { from = first; last = int_min (first +ℤ pos k.duration) last -ℤ pos 1; usage = k.usage; capacity = capacity }
 
 -- what the task demands at the times at which it runs if it starts as late as it may, after those at which it must run
-abbrev pub late_demand : ℕ → Domains → Task → Demand
-late_demand capacity d k = record { from = int_max (latest_start d k) (earliest_end d k); last = (latest_start d k +ℤ pos k.duration) -ℤ pos 1; usage = k.usage; capacity = capacity }
+abbrev pub late_demand : ℤ → ℤ → ℕ → Task → Demand
+late_demand first last capacity k = record { from = int_max (first +ℤ pos k.duration) last; last = (last +ℤ pos k.duration) -ℤ pos 1; usage = k.usage; capacity = capacity }
 
 -- at least the least value after the time
 abbrev pub bound_after : ℕ → List ℤ → Option ℤ → Option Atomic
@@ -101,22 +109,19 @@ bound_before x xs n None = None
 bound_before x xs n (Some t) = option_map (at_most x) (greatest (filter (λ v. int_le v (t -ℤ pos n)) xs))
 
 -- the task starts after the last time at which it does not fit, of those at which it runs if it starts early
-abbrev pub IsLowerBound : ℕ → List Part → Domains → Task → ℕ → Option Atomic → Type 0
-IsLowerBound capacity parts d k x atom =
-    (t : Option ℤ) × IsLast (conflicts (early_demand capacity d k) parts) t × (atom ≡ bound_after x (values d x) t)
+abbrev pub IsLowerBound : ℕ → List Part → List ℤ → Task → ℕ → Option Atomic → Type 0
+IsLowerBound capacity parts xs k x atom =
+    (t : Option ℤ) × IsLast (conflicts (early_demand (first_start xs) (last_start xs) capacity k) parts) t × (atom ≡ bound_after x xs t)
 
 -- the task ends before the first time at which it does not fit, of those at which it runs if it starts late
-abbrev pub IsUpperBound : ℕ → List Part → Domains → Task → ℕ → Option Atomic → Type 0
-IsUpperBound capacity parts d k x atom =
-    (t : Option ℤ) × IsEarliest (conflicts (late_demand capacity d k) parts) t × (atom ≡ bound_before x (values d x) k.duration t)
+abbrev pub IsUpperBound : ℕ → List Part → List ℤ → Task → ℕ → Option Atomic → Type 0
+IsUpperBound capacity parts xs k x atom =
+    (t : Option ℤ) × IsEarliest (conflicts (late_demand (first_start xs) (last_start xs) capacity k) parts) t × (atom ≡ bound_before x xs k.duration t)
 
--- the first of two such bounds that is there
-pub record IsBound (capacity : ℕ) (parts : List Part) (d : Domains) (k : Task) (x : ℕ) (atom : Option Atomic) : Type 0 where
-  pub lower : Option Atomic
-  pub upper : Option Atomic
-  pub is_lower : IsLowerBound capacity parts d k x lower
-  pub is_upper : IsUpperBound capacity parts d k x upper
-  pub first : atom ≡ or_else lower upper
+-- such a lower bound, or such an upper bound where there is no lower
+abbrev pub IsBound : ℕ → List Part → List ℤ → Task → ℕ → Option Atomic → Type 0
+IsBound capacity parts xs k x atom =
+    (IsLowerBound capacity parts xs k x atom × (is_some atom ≡ true)) ⊎ (IsLowerBound capacity parts xs k x None × IsUpperBound capacity parts xs k x atom)
 
 -- ---- what is given on the first of the starts
 
@@ -132,10 +137,15 @@ is_before x (Some a) = nat_lt x a.var
 
 -- the bound on the variable, where it comes before the atom and there is a bound; else the atom
 abbrev pub TakesOn : ℕ → List Part → Domains → Task → ℕ → Bool → Option Atomic → Option Atomic → Type 0
-TakesOn capacity parts d k x true first next = (o : Option Atomic) × IsBound capacity parts d k x o × (next ≡ or_else o first)
+TakesOn capacity parts d k x true first next = (o : Option Atomic) × IsBound capacity parts (values d x) k x o × (next ≡ or_else o first)
 TakesOn capacity parts d k x false first next = next ≡ first
 
 -- the bound on the start of the task, where it comes before the atom; else the atom
 abbrev pub TakesBound : ℕ → List Part → Domains → Task → Term → Option Atomic → Option Atomic → Type 0
 TakesBound capacity parts d k (Var x) first next = TakesOn capacity parts d k x (is_before x first) first next
 TakesBound capacity parts d k (Const v) first next = next ≡ first
+
+-- whether the start is the variable
+abbrev pub is_start : ℕ → Term → Bool
+is_start x (Var y) = y == x
+is_start x (Const v) = false

@@ -1,53 +1,46 @@
 // What is given on a variable that is the start of one task alone.
 
-ghost use Rattle.std.specs.Prelude.{◌≡◌, ◌<◌, Some, length, pos, ◌+ℤ◌, ◌≤ℤ◌, ◌<ℤ◌};
-ghost use Rattle.dp_domain.specs.States.{values};
-ghost use Rattle.dp_domain.specs.Terms.{IsTermOf};
-ghost use Rattle.dp_domain.specs.declared.term.Term.TheVariants.{Var};
-ghost use Rattle.dp_rule_cumulative.specs.Profiles.{IsBound, IsLowerBound, IsUpperBound, bound_after, bound_before, early_demand, late_demand};
-ghost use Rattle.dp_rule_cumulative.specs.Schedules.{earliest_start, latest_start};
+ghost use Rattle.std.specs.Prelude.{◌≡◌, filter, int_le, option_map, pos, ◌+ℤ◌};
+ghost use Rattle.dp_domain.specs.Sets.{IsDomain, greatest, least};
+ghost use Rattle.dp_domain.specs.Turns.{at_least, at_most};
+ghost use Rattle.dp_rule_cumulative.specs.Profiles.{IsBound, IsLowerBound, IsTime, IsUpperBound, early_demand, first_start, last_start, late_demand};
 
 use crate::conflict::{first_conflict, last_conflict};
 use crate::demand::Demand;
 use crate::profile::Profile;
-use crate::standin::{greatest_to, least_from};
-use crate::{Atom, State, Task, VarId};
-use dp_domain::Op;
+use crate::{Atom, Task, VarId};
+use dp_domain::{Dom, Op};
 
-/// A lower bound of the start, else an upper bound.
+/// A lower bound of the start, else an upper bound, where the set is what the start may be.
 pub fn bound(
     task: &Task,
     var: VarId,
+    set: &Dom,
     profile: &Profile,
     capacity: u64,
-    state: &State,
 ) -> Option<Atom>
-    requires start { task.now.start ≡ Var var }
-    requires var { var < length state.now }
-    ensures { IsBound capacity profile.now state.now task.now var result }
+    ensures { IsBound capacity profile.now set.now task.now var result }
 {
-    let lower = new_lower(task, var, profile, capacity, state);
+    let lower = new_lower(task, var, set, profile, capacity);
     if lower.is_some() {
         return lower;
     }
-    new_upper(task, var, profile, capacity, state)
+    new_upper(task, var, set, profile, capacity)
 }
 
 /// The task starts after the last time at which it does not fit, of those at which it runs if it starts early.
 fn new_lower(
     task: &Task,
     var: VarId,
+    set: &Dom,
     profile: &Profile,
     capacity: u64,
-    state: &State,
 ) -> Option<Atom>
-    requires start { task.now.start ≡ Var var }
-    requires var { var < length state.now }
-    ensures { IsLowerBound capacity profile.now state.now task.now var result }
+    ensures { IsLowerBound capacity profile.now set.now task.now var result }
 {
-    let demand = early_demand(task, capacity, state);
+    let demand = early_demand(task, set, capacity);
     match last_conflict(&demand, profile) {
-        Some(time) => at_least_after(time, task, var, state),
+        Some(time) => at_least(var, set, (time + 1) as i64),
         None => None,
     }
 }
@@ -56,67 +49,71 @@ fn new_lower(
 fn new_upper(
     task: &Task,
     var: VarId,
+    set: &Dom,
     profile: &Profile,
     capacity: u64,
-    state: &State,
 ) -> Option<Atom>
-    requires start { task.now.start ≡ Var var }
-    requires var { var < length state.now }
-    ensures { IsUpperBound capacity profile.now state.now task.now var result }
+    ensures { IsUpperBound capacity profile.now set.now task.now var result }
 {
-    let demand = late_demand(task, capacity, state);
+    let demand = late_demand(task, set, capacity);
     match first_conflict(&demand, profile) {
-        Some(time) => at_most_before(time, task, var, state),
+        Some(time) => at_most(var, set, (time - i128::from(task.duration)) as i64),
         None => None,
     }
 }
 
 /// What the task demands before the times at which it must run, if it starts as early as it may.
-fn early_demand(task: &Task, capacity: u64, state: &State) -> Demand
-    requires { IsTermOf (length state.now) task.now.start }
-    ensures { result ≡ early_demand capacity state.now task.now }
+fn early_demand(task: &Task, set: &Dom, capacity: u64) -> Demand
+    ensures demand { result ≡ early_demand (first_start set.now) (last_start set.now) capacity task.now }
+    ensures domain { IsDomain set.now }
 {
+    let first = set.lower().unwrap_or(0);
+    let last = set.upper().unwrap_or(0);
     Demand {
-        from: task.earliest_start(state),
-        last: task.latest_start(state).min(task.earliest_end(state)) - 1,
+        from: i128::from(first),
+        last: end_after(first, task.duration).min(i128::from(last)) - 1,
         usage: task.usage,
         capacity,
     }
 }
 
 /// What the task demands after the times at which it must run, if it starts as late as it may.
-fn late_demand(task: &Task, capacity: u64, state: &State) -> Demand
-    requires { IsTermOf (length state.now) task.now.start }
-    ensures { result ≡ late_demand capacity state.now task.now }
+fn late_demand(task: &Task, set: &Dom, capacity: u64) -> Demand
+    ensures demand { result ≡ late_demand (first_start set.now) (last_start set.now) capacity task.now }
+    ensures domain { IsDomain set.now }
 {
+    let first = set.lower().unwrap_or(0);
+    let last = set.upper().unwrap_or(0);
     Demand {
-        from: task.latest_start(state).max(task.earliest_end(state)),
-        last: task.latest_start(state) + i128::from(task.duration) - 1,
+        from: end_after(first, task.duration).max(i128::from(last)),
+        last: end_after(last, task.duration) - 1,
         usage: task.usage,
         capacity,
     }
 }
 
-/// At least the least value after the time, which lies between the bounds.
-fn at_least_after(time: i128, task: &Task, var: VarId, state: &State) -> Option<Atom>
-    requires start { task.now.start ≡ Var var }
-    requires var { var < length state.now }
-    requires first { earliest_start state.now task.now ≤ℤ time }
-    requires last { time <ℤ latest_start state.now task.now }
-    ensures { result ≡ bound_after var (values state.now var) (Some time) }
+/// The time so long after the start.
+fn end_after(start: i64, duration: u64) -> i128
+    ensures end { result ≡ start +ℤ pos duration }
+    ensures time { IsTime 65 result }
 {
-    let value = least_from(state.set(var), (time + 1) as i64)?;
-    Atom::new(var, Op::Ge, value)
+    i128::from(start) + i128::from(duration)
 }
 
-/// At most the greatest value from which the task ends before the time, or at it.
-fn at_most_before(time: i128, task: &Task, var: VarId, state: &State) -> Option<Atom>
-    requires start { task.now.start ≡ Var var }
-    requires var { var < length state.now }
-    requires first { (earliest_start state.now task.now +ℤ pos task.now.duration) ≤ℤ time }
-    requires last { time <ℤ (latest_start state.now task.now +ℤ pos task.now.duration) }
-    ensures { result ≡ bound_before var (values state.now var) task.now.duration (Some time) }
+/// At least the least number of the set that is this value or more.
+fn at_least(var: VarId, set: &Dom, value: i64) -> Option<Atom>
+    requires { IsDomain set.now }
+    ensures { result ≡ option_map (at_least var) (least (filter (int_le value) set.now)) }
 {
-    let value = greatest_to(state.set(var), (time - i128::from(task.duration)) as i64)?;
-    Atom::new(var, Op::Le, value)
+    let number = set.least_from(value)?;
+    Atom::new(var, Op::Ge, number)
+}
+
+/// At most the greatest number of the set that is this value or less.
+fn at_most(var: VarId, set: &Dom, value: i64) -> Option<Atom>
+    requires { IsDomain set.now }
+    ensures { result ≡ option_map (at_most var) (greatest (filter (λ v. int_le v value) set.now)) }
+{
+    let number = set.greatest_to(value)?;
+    Atom::new(var, Op::Le, number)
 }

@@ -8,7 +8,6 @@ mod demand;
 mod given;
 mod profile;
 mod refusal;
-mod standin;
 mod task;
 mod turn;
 

@@ -16,10 +16,13 @@ use crate::{Atom, Found, Memory, State, Task, VarId};
 pub fn variable_count(tasks: &[Task]) -> usize
     ensures { result ≡ length (term_variables (starts tasks.now)) }
 {
-    tasks
-        .iter()
-        .filter(|task| task.start.variable().is_some())
-        .count()
+    let mut count = 0;
+    for task in tasks {
+        if task.start.variable().is_some() {
+            count += 1;
+        }
+    }
+    count
 }
 
 /// The turn, where each variable is the start of one task.
@@ -74,7 +77,7 @@ fn with_bound(
 {
     match task.start.variable() {
         Some(var) if precedes(var, &first) => {
-            match bound(task, var, profile, capacity, state) {
+            match bound(task, var, state.set(var), profile, capacity) {
                 Some(atom) => Some(atom),
                 None => first,
             }
