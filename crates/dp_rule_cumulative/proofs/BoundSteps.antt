@@ -3,6 +3,7 @@ use Rattle.std.proofs.Common.{◌≡◌, ℕ, ◌^◌, Bool, true, false, ◌↔
 use Rattle.std.specs.Prelude.{unwrap_or}
 use Rattle.std.specs.List.{filter}
 use Rattle.std.proofs.lemmas.Int.{ints}
+use Rattle.std.proofs.lemmas.Bool.{false≢true}
 use Rattle.dp_base.specs.Lists.{Among}
 use Rattle.dp_base.proofs.Lists.{Among-filter_only, Each-among}
 use Rattle.dp_domain.specs.Atoms.{Atomic, IsNameable}
@@ -56,7 +57,7 @@ late_small xs capacity k ps t d e =
 -- ---- atoms that are made
 
 made : (x : ℕ) (op : Op) (n m : ℤ) (o : Option Atomic) → IsNameable op n → (IsSome o ↔ IsNameable op n) → IfSome o (λ a. a ≡ record { var = x; op = op; value = n }) → n ≡ m → o ≡ Some (record { var = x; op = op; value = m })
-made x op n m None h s a e = absurd (s.1 h)
+made x op n m None h s a e = absurd (false≢true (s.1 h))
 made x op n m (Some b) h s a e = ap Some a ∙ ap (λ (v : ℤ). let c : Option Atomic = Some (record { var = x; op = op; value = v }) in c) e
 
 small_from : (n m : ℤ) → n ≡ m → IsSmall m → IsNameable Ge n

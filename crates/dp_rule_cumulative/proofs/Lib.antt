@@ -9,3 +9,5 @@ pub mod ProfileLaws
 pub mod CauseLaws
 pub mod BoundLaws
 pub mod BoundSteps
+pub mod FirstLaws
+pub mod TurnSteps

@@ -67,11 +67,10 @@ fn early_demand(task: &Task, set: &Dom, capacity: u64) -> Demand
     ensures demand { result ≡ early_demand (first_start set.now) (last_start set.now) capacity task.now }
     ensures domain { IsDomain set.now }
 {
-    let first = set.lower().unwrap_or(0);
-    let last = set.upper().unwrap_or(0);
+    let start = first_start(set);
     Demand {
-        from: i128::from(first),
-        last: end_after(first, task.duration).min(i128::from(last)) - 1,
+        from: start,
+        last: end_after(start, task.duration).min(last_start(set)) - 1,
         usage: task.usage,
         capacity,
     }
@@ -82,22 +81,40 @@ fn late_demand(task: &Task, set: &Dom, capacity: u64) -> Demand
     ensures demand { result ≡ late_demand (first_start set.now) (last_start set.now) capacity task.now }
     ensures domain { IsDomain set.now }
 {
-    let first = set.lower().unwrap_or(0);
-    let last = set.upper().unwrap_or(0);
+    let start = last_start(set);
     Demand {
-        from: end_after(first, task.duration).max(i128::from(last)),
-        last: end_after(last, task.duration) - 1,
+        from: end_after(first_start(set), task.duration).max(start),
+        last: end_after(start, task.duration) - 1,
         usage: task.usage,
         capacity,
     }
 }
 
+/// The first of the starts; 0 where there is none.
+fn first_start(set: &Dom) -> i128
+    ensures start { result ≡ first_start set.now }
+    ensures time { IsTime 63 result }
+    ensures domain { IsDomain set.now }
+{
+    i128::from(set.lower().unwrap_or(0))
+}
+
+/// The last of the starts; 0 where there is none.
+fn last_start(set: &Dom) -> i128
+    ensures start { result ≡ last_start set.now }
+    ensures time { IsTime 63 result }
+    ensures domain { IsDomain set.now }
+{
+    i128::from(set.upper().unwrap_or(0))
+}
+
 /// The time so long after the start.
-fn end_after(start: i64, duration: u64) -> i128
-    ensures end { result ≡ start +ℤ pos duration }
+fn end_after(start: i128, duration: u64) -> i128
+    requires { IsTime 63 start }
+    ensures end { result ≡ (start +ℤ pos duration) }
     ensures time { IsTime 65 result }
 {
-    i128::from(start) + i128::from(duration)
+    start + i128::from(duration)
 }
 
 /// At least the least number of the set that is this value or more.

@@ -1,16 +1,16 @@
 // The turn where each variable is the start of one task alone.
 
-ghost use Rattle.std.specs.Prelude.{◌≡◌, false, length, IfOk};
+ghost use Rattle.std.specs.Prelude.{◌≡◌, ◌<◌, false, length, IfOk};
 ghost use Rattle.dp_domain.specs.States.{is_dead};
 ghost use Rattle.dp_domain.specs.Terms.{AreTermsOf, IsTermOf, term_scope, term_variables};
 ghost use Rattle.dp_domain.specs.Turns.{given, turn_of};
-ghost use Rattle.dp_rule_cumulative.specs.Profiles.{AreDistinct, TakesBound, is_before, parts_of};
+ghost use Rattle.dp_rule_cumulative.specs.Profiles.{AreDistinct, TakesBound, TakesOn, is_before, parts_of};
 ghost use Rattle.dp_rule_cumulative.specs.Schedules.{schedule, starts};
 ghost use Rattle.dp_rule_cumulative.specs.TimeTable.{face_cumulative, test_cumulative};
 
 use crate::bound::bound;
 use crate::profile::{Profile, is_exceeded, parts_of};
-use crate::{Atom, Found, Memory, State, Task, VarId};
+use crate::{Atom, Found, Memory, State, Task, Term, VarId};
 
 /// How many tasks start at a variable.
 pub fn variable_count(tasks: &[Task]) -> usize
@@ -72,17 +72,31 @@ fn with_bound(
     capacity: u64,
     state: &State,
 ) -> Option<Atom>
-    requires start { IsTermOf (length state.now) task.now.start }
+    requires { IsTermOf (length state.now) task.now.start }
     ensures { TakesBound capacity profile.now state.now task.now task.now.start first result }
 {
-    match task.start.variable() {
-        Some(var) if precedes(var, &first) => {
-            match bound(task, var, state.set(var), profile, capacity) {
-                Some(atom) => Some(atom),
-                None => first,
-            }
-        }
-        _ => first,
+    match task.start {
+        Term::Var(var) => with_bound_on(first, var, task, profile, capacity, state),
+        Term::Const(_) => first,
+    }
+}
+
+/// The atom, or the bound on the variable where that is lesser.
+fn with_bound_on(
+    first: Option<Atom>,
+    var: VarId,
+    task: &Task,
+    profile: &Profile,
+    capacity: u64,
+    state: &State,
+) -> Option<Atom>
+    requires { var < length state.now }
+    ensures { TakesOn capacity profile.now state.now task.now var (is_before var first) first result }
+{
+    if precedes(var, &first) {
+        bound(task, var, state.set(var), profile, capacity).or(first)
+    } else {
+        first
     }
 }
 
