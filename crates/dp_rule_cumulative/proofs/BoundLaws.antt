@@ -152,8 +152,7 @@ early_cause q d x k v t alone new cause =
     let during = λ (w : ℤ) (here : Among w xs) (less : w <ℤ v). during_parts w (w +ℤ pos k.duration) t (each w here (test-from_le w (v -ℤ pos 1) (back_le w v less))) in
     let first = first_here xs u.0 u.1 in
     let less = le_lt (first_start xs) u.0 v (least-value xs u.0 u.1) (lt-from_test v u.0 u.2) in
-    let both = during (first_start xs) first less in
-    (
+    let both = during (first_start xs) first less in (
       record {
         from = both.0;
         last = elim (cases_Bool (int_le (last_start xs) t)) [
@@ -193,22 +192,23 @@ lower_at q d x k t (Some w) alone last b =
     let first = first_here xs w b.0 in
     let new = entails-not d (at_least x w) (first_start xs) first (test-from_lt w (first_start xs) (le_lt (first_start xs) t w i.from after)) in
     let lesser : (u : ℤ) → Among u xs → u <ℤ w → u ≤ℤ ((t +ℤ pos 1) -ℤ pos 1) = λ u here less. elim (cases_Bool (int_le (t +ℤ pos 1) u)) [
-        | inl e ↦ absurd (not_less u w less (b.2 u here e))
-        | inr e ↦ back_le u (t +ℤ pos 1) (lt-from_test (t +ℤ pos 1) u e)
-      ] in
+      | inl e ↦ absurd (not_less u w less (b.2 u here e))
+      | inr e ↦ back_le u (t +ℤ pos 1) (lt-from_test (t +ℤ pos 1) u e)
+    ] in
     let given = given-cause q d k (at_least x w) t alone new (cause_early q d x k w t alone new i (λ u here less. le_back u t (lesser u here less))) in
     sym (greatest-is (filter (gives_lower q d x) xs) w (Among-filter_all (gives_lower q d x) xs w b.0 given) (λ v there.
-        let r = Among-filter_only (gives_lower q d x) xs v there in
-        let c = cause-given q d k (at_least x v) alone r.1 in
-        let s = early_cause q d x k v c.0 alone (new_of q d x v r.1) c.1 in
-        let no_later = last.1 c.0 (early_from q d x k c.0 s.0) in
-        elim (cases_Bool (int_le v w)) [
-          | inl e ↦ le-from_test v w e
-          | inr e ↦ absurd (not_less t w after (le_trans w c.0 t (s.1 w b.0 (lt-from_test v w e)) no_later))
-        ]))
+    let r = Among-filter_only (gives_lower q d x) xs v there in
+    let c = cause-given q d k (at_least x v) alone r.1 in
+    let s = early_cause q d x k v c.0 alone (new_of q d x v r.1) c.1 in
+    let no_later = last.1 c.0 (early_from q d x k c.0 s.0) in
+    elim (cases_Bool (int_le v w)) [
+      | inl e ↦ le-from_test v w e
+      | inr e ↦ absurd (not_less t w after (le_trans w c.0 t (s.1 w b.0 (lt-from_test v w e)) no_later))
+    ]))
   where
     le_back : (u t : ℤ) → u ≤ℤ ((t +ℤ pos 1) -ℤ pos 1) → u ≤ℤ t
     le_back u t h = omega (arith, ints)
+
     new_of : (q : Schedule) (d : Domains) (x : ℕ) (v : ℤ) → gives_lower q d x v ≡ true → entails d (at_least x v) ≡ false
     new_of q d x v g = (gives-parts (face_cumulative q) d (at_least x v) g).0
 
@@ -267,8 +267,7 @@ late_cause q d x k v t alone new cause =
     let during = λ (w : ℤ) (here : Among w xs) (more : v <ℤ w). during_parts w (w +ℤ pos k.duration) t (each w here (test-from_le (v +ℤ pos 1) w (next_le v w more))) in
     let last = last_here xs u.0 u.1 in
     let more = lt_le v u.0 (last_start xs) (lt-from_test u.0 v u.2) (greatest-value xs u.0 u.1) in
-    let both = during (last_start xs) last more in
-    (
+    let both = during (last_start xs) last more in (
       record {
         from = both.0;
         end = elim (cases_Bool (int_le (first_start xs +ℤ pos k.duration) t)) [
@@ -314,19 +313,19 @@ upper_at q d x k t (Some w) alone first b =
     let last = last_here xs w b.0 in
     let new = entails-not d (at_most x w) (last_start xs) last (test-from_lt (last_start xs) w (starts_until w (last_start xs) (pos k.duration) t before i.last)) in
     let greater : (u : ℤ) → Among u xs → w <ℤ u → t <ℤ (u +ℤ pos k.duration) = λ u here more. elim (cases_Bool (ends_in_time t k.duration u)) [
-        | inl e ↦ absurd (not_less w u more (b.2 u here e))
-        | inr e ↦ ends_after u (pos k.duration) t (lt-from_test u (t -ℤ pos k.duration) e)
-      ] in
+      | inl e ↦ absurd (not_less w u more (b.2 u here e))
+      | inr e ↦ ends_after u (pos k.duration) t (lt-from_test u (t -ℤ pos k.duration) e)
+    ] in
     let given = given-cause q d k (at_most x w) t alone new (cause_late q d x k w t alone new i greater) in
     sym (least-is (filter (gives_upper q d x) xs) w (Among-filter_all (gives_upper q d x) xs w b.0 given) (λ v there.
-        let r = Among-filter_only (gives_upper q d x) xs v there in
-        let c = cause-given q d k (at_most x v) alone r.1 in
-        let s = late_cause q d x k v c.0 alone (gives-parts (face_cumulative q) d (at_most x v) r.1).0 c.1 in
-        let no_earlier = first.1 c.0 (late_from q d x k c.0 s.0) in
-        elim (cases_Bool (int_le w v)) [
-          | inl e ↦ le-from_test w v e
-          | inr e ↦ absurd (not_less c.0 (w +ℤ pos k.duration) (s.1 w b.0 (lt-from_test w v e)) (le_trans (w +ℤ pos k.duration) t c.0 (ends_until w (pos k.duration) t before) no_earlier))
-        ]))
+    let r = Among-filter_only (gives_upper q d x) xs v there in
+    let c = cause-given q d k (at_most x v) alone r.1 in
+    let s = late_cause q d x k v c.0 alone (gives-parts (face_cumulative q) d (at_most x v) r.1).0 c.1 in
+    let no_earlier = first.1 c.0 (late_from q d x k c.0 s.0) in
+    elim (cases_Bool (int_le w v)) [
+      | inl e ↦ le-from_test w v e
+      | inr e ↦ absurd (not_less c.0 (w +ℤ pos k.duration) (s.1 w b.0 (lt-from_test w v e)) (le_trans (w +ℤ pos k.duration) t c.0 (ends_until w (pos k.duration) t before) no_earlier))
+    ]))
 
 upper_by : (q : Schedule) (d : Domains) (x : ℕ) (k : Task) (t : Option ℤ) → IsAlone q d x k → IsEarliest (late q d x k) t → bound_before x (values d x) k.duration t ≡ new_upper (face_cumulative q) d x
 upper_by q d x k None alone first =

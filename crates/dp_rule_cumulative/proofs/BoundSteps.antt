@@ -1,6 +1,7 @@
 -- Steps of the bounds: numbers that fit, and atoms that are made.
 use Rattle.std.proofs.Common.{◌≡◌, ℕ, ◌^◌, Bool, true, false, ◌↔◌, Option, Some, None, option_map, IsSome, IfSome, List, [], ◌∷◌, ℤ, pos, neg_ℤ, ◌+ℤ◌, ◌-ℤ◌, ◌≤ℤ◌, int_le, refl, sym, ◌∙◌, ap, arith}
 use Rattle.std.specs.Prelude.{unwrap_or}
+use Rattle.std.specs.Int.{int_max}
 use Rattle.std.specs.List.{filter}
 use Rattle.std.proofs.lemmas.Int.{ints}
 use Rattle.std.proofs.lemmas.Bool.{false≢true}
@@ -14,6 +15,7 @@ use Rattle.dp_domain.specs.Turns.{at_least, at_most}
 use Rattle.dp_domain.proofs.IntervalSteps.{from_max, from_min}
 use Rattle.dp_domain.proofs.SetLaws.{IsSmall-among, greatest-among, greatest_from-among, least-among, least_from-among}
 use Rattle.dp_rule_cumulative.specs.Profiles.{bound_after, bound_before, conflicts, early_demand, first_start, last_start, late_demand, used_at}
+use Rattle.dp_rule_cumulative.specs.declared.demand.Demand.{Demand}
 use Rattle.dp_rule_cumulative.specs.declared.profile.Part.{Part}
 use Rattle.dp_rule_cumulative.specs.declared.task.Task.{Task}
 use Rattle.dp_rule_cumulative.proofs.ConflictLaws.{lacks_parts}
@@ -87,3 +89,11 @@ after_is x xs t v o e f = e ∙ ap (λ (u : ℤ). option_map (at_least x) (least
 
 pub before_is : (x : ℕ) (xs : List ℤ) (n : ℕ) (t v : ℤ) (o : Option Atomic) → o ≡ option_map (at_most x) (greatest (filter (λ u. int_le u v) xs)) → v ≡ (t -ℤ pos n) → o ≡ bound_before x xs n (Some t)
 before_is x xs n t v o e f = e ∙ ap (λ (u : ℤ). option_map (at_most x) (greatest (filter (λ w. int_le w u) xs))) f
+
+-- ---- demands that are made
+
+-- a demand whose ends are such is the late one
+pub late_made : (first last : ℤ) (capacity : ℕ) (k : Task) (m e s g f l : ℤ) → m ≡ int_max e s → e ≡ (first +ℤ pos k.duration) → s ≡ last → g ≡ (last +ℤ pos k.duration) → f ≡ m → l ≡ (g -ℤ pos 1) → (let w : Demand = record { from = f; last = l; usage = k.usage; capacity = capacity } in w) ≡ late_demand first last capacity k
+late_made first last capacity k m e s g f l h i j n o p =
+    ap (λ (v : ℤ). let w : Demand = record { from = v; last = l; usage = k.usage; capacity = capacity } in w) (o ∙ h ∙ ap (λ v. int_max v s) i ∙ ap (λ v. int_max (first +ℤ pos k.duration) v) j)
+    ∙ ap (λ (v : ℤ). let w : Demand = record { from = int_max (first +ℤ pos k.duration) last; last = v; usage = k.usage; capacity = capacity } in w) (p ∙ ap (λ v. v -ℤ pos 1) n)

@@ -146,34 +146,39 @@ clash_cause q d x k a v alone alive (inr over) =
     let t = over.0 in
     let other = λ (j : Task) (e : is_start x j.start ≡ false). other_runs d a t j (subst (λ y. is_start y j.start ≡ false) (sym v) e) in
     let idle : must_run d t k ≡ true → ⊥ = λ runs. not_over q.capacity (usage_of (must_run d t) q.tasks) (usage_of (must_run (cut d a) t) q.tasks) over.1 (calm_at q d t alone.calm)
-        (usage-le (must_run (cut d a) t) (must_run d t) q.tasks (λ j here r. elim (cases_Bool (is_start x j.start)) [
-          | inl e ↦ ap (must_run d t) (the_one q d x k j alone here e) ∙ runs
-          | inr e ↦ sym (other j e) ∙ r
-        ])) in
+    (usage-le (must_run (cut d a) t) (must_run d t) q.tasks (λ j here r. elim (cases_Bool (is_start x j.start)) [
+      | inl e ↦ ap (must_run d t) (the_one q d x k j alone here e) ∙ runs
+      | inr e ↦ sym (other j e) ∙ r
+    ])) in
     let runs : must_run (cut d a) t k ≡ false → ⊥ = λ n. not_over q.capacity (usage_of (must_run d t) q.tasks) (usage_of (must_run (cut d a) t) q.tasks) over.1 (calm_at q d t alone.calm)
-        (usage-le (must_run (cut d a) t) (must_run d t) q.tasks (λ j here r. elim (cases_Bool (is_start x j.start)) [
-          | inl e ↦ absurd (both_ways (must_run (cut d a) t k) n (sym (ap (must_run (cut d a) t) (the_one q d x k j alone here e)) ∙ r))
-          | inr e ↦ sym (other j e) ∙ r
-        ])) in
+    (usage-le (must_run (cut d a) t) (must_run d t) q.tasks (λ j here r. elim (cases_Bool (is_start x j.start)) [
+      | inl e ↦ absurd (both_ways (must_run (cut d a) t k) n (sym (ap (must_run (cut d a) t) (the_one q d x k j alone here e)) ∙ r))
+      | inr e ↦ sym (other j e) ∙ r
+    ])) in
     let most = usage-most (must_run d t) (must_run (cut d a) t) (λ j. is_start x j.start) q.tasks (λ j here r. elim (cases_Bool (is_start x j.start)) [
-          | inl e ↦ inr e
-          | inr e ↦ inl (sym (other j e) ∙ r)
-        ]) in
-    (t, record {
-      new = false_from_ne_true (must_run d t k) idle;
-      runs = elim (cases_Bool (must_run (cut d a) t k)) [ inl e ↦ e | inr e ↦ absurd (runs e) ];
-      over = over_by q.capacity (usage_of (must_run d t) q.tasks) (usage_of (must_run (cut d a) t) q.tasks) k.usage over.1 (subst (λ u. usage_of (must_run (cut d a) t) q.tasks ≤ usage_of (must_run d t) q.tasks + u) (own_use q d x k alone) most);
-    })
+      | inl e ↦ inr e
+      | inr e ↦ inl (sym (other j e) ∙ r)
+    ]) in (
+      t,
+      record {
+        new = false_from_ne_true (must_run d t k) idle;
+        runs = elim (cases_Bool (must_run (cut d a) t k)) [ inl e ↦ e | inr e ↦ absurd (runs e) ];
+        over = over_by q.capacity (usage_of (must_run d t) q.tasks) (usage_of (must_run (cut d a) t) q.tasks) k.usage over.1 (subst (λ u. usage_of (must_run (cut d a) t) q.tasks ≤ usage_of (must_run d t) q.tasks + u) (own_use q d x k alone) most);
+      },
+    )
 
 later : (c m n : ℕ) → c < m → m ≤ n → c < n
 later c m n h k = omega arith
 
 -- and a cause makes the cut clash
 cause_clash : (q : Schedule) (d : Domains) (x : ℕ) (k : Task) (a : Atomic) (t : ℤ) → a.var ≡ x → IsAlone q d x k → IsCause q d k a t → ClashesCumulative q (cut d a)
-cause_clash q d x k a t v alone cause = inr (t, later q.capacity _ _ cause.over (usage-more (must_run d t) (must_run (cut d a) t) q.tasks k (λ j here r. elim (cases_Bool (is_start x j.start)) [
-      | inl e ↦ absurd (both_ways (must_run d t k) cause.new (sym (ap (must_run d t) (the_one q d x k j alone here e)) ∙ r))
-      | inr e ↦ other_runs d a t j (subst (λ y. is_start y j.start ≡ false) (sym v) e) ∙ r
-    ]) alone.here cause.new cause.runs))
+cause_clash q d x k a t v alone cause = inr (
+  t,
+  later q.capacity _ _ cause.over (usage-more (must_run d t) (must_run (cut d a) t) q.tasks k (λ j here r. elim (cases_Bool (is_start x j.start)) [
+    | inl e ↦ absurd (both_ways (must_run d t k) cause.new (sym (ap (must_run d t) (the_one q d x k j alone here e)) ∙ r))
+    | inr e ↦ other_runs d a t j (subst (λ y. is_start y j.start ≡ false) (sym v) e) ∙ r
+  ]) alone.here cause.new cause.runs),
+)
 
 -- ---- what is given
 
@@ -196,8 +201,7 @@ runs-each d k b t start new =
     let u = entails-fails d b new in
     let same : term_values (cut d (negated b)) k.start ≡ values (cut d (negated b)) b.var = ap (term_values (cut d (negated b))) start in
     let there = Among-cut_all d (negated b) b.var u.0 u.1 (λ e. meets-from_not b u.0 u.2) in
-    let each = must_run-each (cut d (negated b)) t k u.0 (subst (λ xs. Among u.0 xs) (sym same) there) in
-    (
+    let each = must_run-each (cut d (negated b)) t k u.0 (subst (λ xs. Among u.0 xs) (sym same) there) in (
       λ runs w here m. each.0 runs w (subst (λ xs. Among w xs) (sym same) (Among-cut_all d (negated b) b.var w here (λ e. m))),
       λ all. each.1 (λ w here.
           let h = subst (λ xs. Among w xs) same here in

@@ -74,8 +74,7 @@ pub distinct-from_length : (xs : List ℕ) → length (in_order xs) ≡ length x
 distinct-from_length [] e = tt
 distinct-from_length (x ∷ xs) e =
     let r = scope_length xs in
-    let s = with_length x (in_order xs) in
-    (
+    let s = with_length x (in_order xs) in (
       λ h. too_few (length (in_order xs)) (length xs) (with_there x (in_order xs) (climbs_in_order xs) (among_in_order x xs h)) e r,
       distinct-from_length xs (omega arith),
     )

@@ -79,6 +79,7 @@ overload_step capacity d ks k =
   where
     le_refl : (a : ℤ) → a ≤ℤ a
     le_refl a = omega (arith, ints)
+
     time_where : (d : Domains) (k : Task) → has_time (part_of d k) ≡ must_run d (latest_start d k) k
     time_where d k = same_tests (has_time (part_of d k)) (must_run d (latest_start d k) k)
         (λ h. during_from (latest_start d k) (earliest_end d k) (latest_start d k) (le_refl (latest_start d k)) (before_end (latest_start d k) (earliest_end d k) h))

@@ -12,13 +12,7 @@ use crate::{Atom, Task, VarId};
 use dp_domain::{Dom, Op};
 
 /// A lower bound of the start, else an upper bound, where the set is what the start may be.
-pub fn bound(
-    task: &Task,
-    var: VarId,
-    set: &Dom,
-    profile: &Profile,
-    capacity: u64,
-) -> Option<Atom>
+pub fn bound(task: &Task, var: VarId, set: &Dom, profile: &Profile, capacity: u64) -> Option<Atom>
     ensures { IsBound capacity profile.now set.now task.now var result }
 {
     let lower = new_lower(task, var, set, profile, capacity);
@@ -29,13 +23,7 @@ pub fn bound(
 }
 
 /// The task starts after the last time at which it does not fit, of those at which it runs if it starts early.
-fn new_lower(
-    task: &Task,
-    var: VarId,
-    set: &Dom,
-    profile: &Profile,
-    capacity: u64,
-) -> Option<Atom>
+fn new_lower(task: &Task, var: VarId, set: &Dom, profile: &Profile, capacity: u64) -> Option<Atom>
     ensures { IsLowerBound capacity profile.now set.now task.now var result }
 {
     let demand = early_demand(task, set, capacity);
@@ -46,13 +34,7 @@ fn new_lower(
 }
 
 /// The task ends before the first time at which it does not fit, of those at which it runs if it starts late.
-fn new_upper(
-    task: &Task,
-    var: VarId,
-    set: &Dom,
-    profile: &Profile,
-    capacity: u64,
-) -> Option<Atom>
+fn new_upper(task: &Task, var: VarId, set: &Dom, profile: &Profile, capacity: u64) -> Option<Atom>
     ensures { IsUpperBound capacity profile.now set.now task.now var result }
 {
     let demand = late_demand(task, set, capacity);

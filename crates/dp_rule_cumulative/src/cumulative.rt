@@ -6,11 +6,9 @@ ghost use Rattle.dp_rule_cumulative.specs.Schedules.{given, schedule_of};
 ghost use Rattle.dp_rule_cumulative.specs.TimeTable.{ClashesCumulative, MeetsCumulative, face_cumulative};
 ghost use Rattle.dp_rule_cumulative.specs.TimeTableLaws.{cumulative_deciding, cumulative_exact, cumulative_lawful, cumulative_sound};
 
-use crate::{
-    Atom, Found, Memory, Rule, State, Steps, Task, TaskRefusal, Term, Test, VarId, given,
-};
 use crate::profile::{is_exceeded, parts_of};
 use crate::turn::{turn, variable_count};
+use crate::{Atom, Found, Memory, Rule, State, Steps, Task, TaskRefusal, Term, Test, VarId, given};
 use dp_domain::{search_explanation, search_turn, term_scope};
 use std::alloc::Global;
 use std::marker::Model;
@@ -115,7 +113,7 @@ impl Rule for Cumulative {
         state: &State,
         steps: &mut Steps<L>,
     ) -> Result<Option<Found>, Memory> {
-        if variable_count(self.tasks.as_slice()) != self.scope.len() {
+        if variable_count(self.tasks.as_slice()) != self.scope_len() {
             return search_turn(self, state, steps);
         }
         steps.tick();

@@ -44,12 +44,7 @@ pub fn turn(tasks: &[Task], capacity: u64, state: &State) -> Result<Option<Found
 }
 
 /// The bound on the least variable that one is given on.
-fn first_bound(
-    tasks: &[Task],
-    profile: &Profile,
-    capacity: u64,
-    state: &State,
-) -> Option<Atom>
+fn first_bound(tasks: &[Task], profile: &Profile, capacity: u64, state: &State) -> Option<Atom>
     requires starts { AreTermsOf (length state.now) (starts tasks.now) }
     requires alive { is_dead state.now ≡ false }
     requires distinct { AreDistinct (term_variables (starts tasks.now)) }

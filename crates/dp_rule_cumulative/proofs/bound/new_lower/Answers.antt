@@ -12,7 +12,7 @@ overflow_add-time c =
     let ps = c.args.profile.now in
     let w = early_demand (first_start xs) (last_start xs) c.args.capacity c.args.task.now in
     let last : IsLast (conflicts w ps) (Some c.in-Some.time) =
-        subst (IsLast (conflicts w ps)) c.in-Some.is (subst (λ v. IsLast (conflicts v ps) c.last_conflict.result) c.early_demand-demand.ensures.demand c.last_conflict.ensures) in
+    subst (IsLast (conflicts w ps)) c.in-Some.is (subst (λ v. IsLast (conflicts v ps) c.last_conflict.result) c.early_demand-demand.ensures.demand c.last_conflict.ensures) in
     let small : IsSmall (c.in-Some.time +ℤ pos 1) = early_small xs c.args.capacity c.args.task.now ps c.in-Some.time c.early_demand-demand.ensures.domain last.0 in
     omega (arith, ints, small.0, small.1)
 
@@ -22,7 +22,7 @@ overflow_cast-time c =
     let ps = c.args.profile.now in
     let w = early_demand (first_start xs) (last_start xs) c.args.capacity c.args.task.now in
     let last : IsLast (conflicts w ps) (Some c.in-Some.time) =
-        subst (IsLast (conflicts w ps)) c.in-Some.is (subst (λ v. IsLast (conflicts v ps) c.last_conflict.result) c.early_demand-demand.ensures.demand c.last_conflict.ensures) in
+    subst (IsLast (conflicts w ps)) c.in-Some.is (subst (λ v. IsLast (conflicts v ps) c.last_conflict.result) c.early_demand-demand.ensures.demand c.last_conflict.ensures) in
     let small : IsSmall (c.in-Some.time +ℤ pos 1) = early_small xs c.args.capacity c.args.task.now ps c.in-Some.time c.early_demand-demand.ensures.domain last.0 in
     omega (arith, ints, small.0, small.1)
 
@@ -32,6 +32,6 @@ returns-in-Some c =
     let ps = c.args.profile.now in
     let w = early_demand (first_start xs) (last_start xs) c.args.capacity c.args.task.now in
     let last : IsLast (conflicts w ps) (Some c.in-Some.time) =
-        subst (IsLast (conflicts w ps)) c.in-Some.is (subst (λ v. IsLast (conflicts v ps) c.last_conflict.result) c.early_demand-demand.ensures.demand c.last_conflict.ensures) in
+    subst (IsLast (conflicts w ps)) c.in-Some.is (subst (λ v. IsLast (conflicts v ps) c.last_conflict.result) c.early_demand-demand.ensures.demand c.last_conflict.ensures) in
     let small : IsSmall (c.in-Some.time +ℤ pos 1) = early_small xs c.args.capacity c.args.task.now ps c.in-Some.time c.early_demand-demand.ensures.domain last.0 in
     (Some c.in-Some.time, last, after_is c.args.var xs c.in-Some.time _ c.at_least.result c.at_least.ensures (omega (arith, ints, small.0, small.1)))

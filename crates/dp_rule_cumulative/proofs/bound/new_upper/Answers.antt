@@ -13,7 +13,7 @@ overflow_sub-time c =
     let ps = c.args.profile.now in
     let w = late_demand (first_start xs) (last_start xs) c.args.capacity c.args.task.now in
     let first : IsEarliest (conflicts w ps) (Some c.in-Some.time) =
-        subst (IsEarliest (conflicts w ps)) c.in-Some.is (subst (λ v. IsEarliest (conflicts v ps) c.first_conflict.result) c.late_demand-demand.ensures.demand c.first_conflict.ensures) in
+    subst (IsEarliest (conflicts w ps)) c.in-Some.is (subst (λ v. IsEarliest (conflicts v ps) c.first_conflict.result) c.late_demand-demand.ensures.demand c.first_conflict.ensures) in
     let small : IsSmall (c.in-Some.time -ℤ pos c.args.task.now.duration) = late_small xs c.args.capacity c.args.task.now ps c.in-Some.time c.late_demand-demand.ensures.domain first.0 in
     omega (arith, ints, small.0, small.1, c.from.ensures)
 
@@ -23,7 +23,7 @@ overflow_cast-time c =
     let ps = c.args.profile.now in
     let w = late_demand (first_start xs) (last_start xs) c.args.capacity c.args.task.now in
     let first : IsEarliest (conflicts w ps) (Some c.in-Some.time) =
-        subst (IsEarliest (conflicts w ps)) c.in-Some.is (subst (λ v. IsEarliest (conflicts v ps) c.first_conflict.result) c.late_demand-demand.ensures.demand c.first_conflict.ensures) in
+    subst (IsEarliest (conflicts w ps)) c.in-Some.is (subst (λ v. IsEarliest (conflicts v ps) c.first_conflict.result) c.late_demand-demand.ensures.demand c.first_conflict.ensures) in
     let small : IsSmall (c.in-Some.time -ℤ pos c.args.task.now.duration) = late_small xs c.args.capacity c.args.task.now ps c.in-Some.time c.late_demand-demand.ensures.domain first.0 in
     omega (arith, ints, small.0, small.1, c.from.ensures)
 
@@ -33,6 +33,6 @@ returns-in-Some c =
     let ps = c.args.profile.now in
     let w = late_demand (first_start xs) (last_start xs) c.args.capacity c.args.task.now in
     let first : IsEarliest (conflicts w ps) (Some c.in-Some.time) =
-        subst (IsEarliest (conflicts w ps)) c.in-Some.is (subst (λ v. IsEarliest (conflicts v ps) c.first_conflict.result) c.late_demand-demand.ensures.demand c.first_conflict.ensures) in
+    subst (IsEarliest (conflicts w ps)) c.in-Some.is (subst (λ v. IsEarliest (conflicts v ps) c.first_conflict.result) c.late_demand-demand.ensures.demand c.first_conflict.ensures) in
     let small : IsSmall (c.in-Some.time -ℤ pos c.args.task.now.duration) = late_small xs c.args.capacity c.args.task.now ps c.in-Some.time c.late_demand-demand.ensures.domain first.0 in
     (Some c.in-Some.time, first, before_is c.args.var xs c.args.task.now.duration c.in-Some.time _ c.at_most.result c.at_most.ensures (omega (arith, ints, small.0, small.1, c.from.ensures)))

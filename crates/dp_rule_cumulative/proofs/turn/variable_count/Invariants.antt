@@ -7,5 +7,5 @@ use Rattle.dp_rule_cumulative.proofs.turn.variable_count.Given as goal
 abbrev pub invariant-loop-task : goal.invariant-loop-task
 invariant-loop-task l = record {
   counted : l.count + length (term_variables (starts (drop l.task-index l.tasks))) ≡ length (term_variables (starts l.tasks));
-  few : l.count ≤ l.task-index
+  few : l.count ≤ l.task-index;
 }
