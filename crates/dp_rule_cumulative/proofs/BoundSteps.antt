@@ -1,5 +1,5 @@
 -- Steps of the bounds: numbers that fit, and atoms that are made.
-use Rattle.std.proofs.Common.{◌≡◌, ℕ, ◌^◌, Bool, true, false, ◌↔◌, Option, Some, None, option_map, IsSome, IfSome, List, [], ◌∷◌, ℤ, pos, neg_ℤ, ◌+ℤ◌, ◌-ℤ◌, ◌≤ℤ◌, int_le, refl, sym, ◌∙◌, ap, arith}
+use Rattle.std.proofs.Common.{◌≡◌, ℕ, ◌^◌, Bool, true, false, ◌↔◌, Option, Some, None, option_map, IsSome, IfSome, List, [], ◌∷◌, ℤ, pos, neg_ℤ, ◌+ℤ◌, ◌-ℤ◌, ◌≤ℤ◌, int_le, refl, sym, ◌∙◌, ap, subst, arith}
 use Rattle.std.specs.Prelude.{unwrap_or}
 use Rattle.std.specs.Int.{int_max}
 use Rattle.std.specs.List.{filter}
@@ -14,7 +14,7 @@ use Rattle.dp_domain.specs.Sets.{IsDomain, IsSmall, greatest, greatest_from, lea
 use Rattle.dp_domain.specs.Turns.{at_least, at_most}
 use Rattle.dp_domain.proofs.IntervalSteps.{from_max, from_min}
 use Rattle.dp_domain.proofs.SetLaws.{IsSmall-among, greatest-among, greatest_from-among, least-among, least_from-among}
-use Rattle.dp_rule_cumulative.specs.Profiles.{bound_after, bound_before, conflicts, early_demand, first_start, last_start, late_demand, used_at}
+use Rattle.dp_rule_cumulative.specs.Profiles.{IsEarliest, IsLast, bound_after, bound_before, conflicts, early_demand, first_start, last_start, late_demand, used_at}
 use Rattle.dp_rule_cumulative.specs.declared.demand.Demand.{Demand}
 use Rattle.dp_rule_cumulative.specs.declared.profile.Part.{Part}
 use Rattle.dp_rule_cumulative.specs.declared.task.Task.{Task}
@@ -55,6 +55,30 @@ late_small xs capacity k ps t d e =
     let l = lacks_parts (late_demand (first_start xs) (last_start xs) capacity k) t (used_at t ps) e in
     let s = from_max (first_start xs +ℤ pos k.duration) (last_start xs) t l.first in
     within (first_start xs) (last_start xs) (pos k.duration) t (first_small xs d) (last_small xs d) s.0 l.last
+
+-- ---- conflicts that are found
+
+-- the last early time as the code finds it, which is followed by a number that can be a value
+pub record IsEarlyFound (xs : List ℤ) (capacity : ℕ) (k : Task) (ps : List Part) (t : ℤ) : Type 0 where
+  pub last : IsLast (conflicts (early_demand (first_start xs) (last_start xs) capacity k) ps) (Some t)
+  pub small : IsSmall (t +ℤ pos 1)
+
+pub early_found : (xs : List ℤ) (capacity : ℕ) (k : Task) (ps : List Part) (w : Demand) (o : Option ℤ) (t : ℤ) → IsDomain xs → w ≡ early_demand (first_start xs) (last_start xs) capacity k → IsLast (conflicts w ps) o → o ≡ Some t → IsEarlyFound xs capacity k ps t
+early_found xs capacity k ps w o t d e h f =
+    let v = early_demand (first_start xs) (last_start xs) capacity k in
+    let last : IsLast (conflicts v ps) (Some t) = subst (IsLast (conflicts v ps)) f (subst (λ (u : Demand). IsLast (conflicts u ps) o) e h) in
+    record { last = last; small = early_small xs capacity k ps t d last.0 }
+
+-- the first late time, which comes the duration after a number that can be a value
+pub record IsLateFound (xs : List ℤ) (capacity : ℕ) (k : Task) (ps : List Part) (t : ℤ) : Type 0 where
+  pub first : IsEarliest (conflicts (late_demand (first_start xs) (last_start xs) capacity k) ps) (Some t)
+  pub small : IsSmall (t -ℤ pos k.duration)
+
+pub late_found : (xs : List ℤ) (capacity : ℕ) (k : Task) (ps : List Part) (w : Demand) (o : Option ℤ) (t : ℤ) → IsDomain xs → w ≡ late_demand (first_start xs) (last_start xs) capacity k → IsEarliest (conflicts w ps) o → o ≡ Some t → IsLateFound xs capacity k ps t
+late_found xs capacity k ps w o t d e h f =
+    let v = late_demand (first_start xs) (last_start xs) capacity k in
+    let first : IsEarliest (conflicts v ps) (Some t) = subst (IsEarliest (conflicts v ps)) f (subst (λ (u : Demand). IsEarliest (conflicts u ps) o) e h) in
+    record { first = first; small = late_small xs capacity k ps t d first.0 }
 
 -- ---- atoms that are made
 
