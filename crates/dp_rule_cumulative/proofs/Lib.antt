@@ -3,3 +3,11 @@ pub mod MadeSteps
 pub mod MustRunLaws
 pub mod RefusalLaws
 pub mod UsageSteps
+pub mod ConflictLaws
+pub mod ConflictSteps
+pub mod ProfileLaws
+pub mod CauseLaws
+pub mod BoundLaws
+pub mod BoundSteps
+pub mod FirstLaws
+pub mod TurnSteps

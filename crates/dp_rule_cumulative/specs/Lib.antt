@@ -3,3 +3,4 @@ pub mod TimeTable
 pub mod Refusals
 pub mod UsageLaws
 pub mod TimeTableLaws
+pub mod Profiles

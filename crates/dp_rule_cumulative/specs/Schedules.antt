@@ -12,6 +12,10 @@ pub record Schedule : Type 0 where
   pub tasks : List Task
   pub capacity : ℕ
 
+-- these tasks and this capacity
+abbrev pub schedule : List Task → ℕ → Schedule
+schedule tasks capacity = record { tasks = tasks; capacity = capacity }
+
 -- the starts of the tasks
 abbrev pub starts : List Task → List Term
 starts tasks = map (λ k. k.start) tasks
@@ -36,9 +40,13 @@ runs_at s t k = is_during (term_at s k.start) (term_at s k.start +ℤ pos k.dura
 abbrev pub latest_start : Domains → Task → ℤ
 latest_start d k = unwrap_or (greatest (term_values d k.start)) (pos 0)
 
+-- the earliest start of the task at a state; 0 where it has none
+abbrev pub earliest_start : Domains → Task → ℤ
+earliest_start d k = unwrap_or (least (term_values d k.start)) (pos 0)
+
 -- the earliest end of the task at a state
 abbrev pub earliest_end : Domains → Task → ℤ
-earliest_end d k = unwrap_or (least (term_values d k.start)) (pos 0) +ℤ pos k.duration
+earliest_end d k = earliest_start d k +ℤ pos k.duration
 
 -- whether the task runs at the time wherever it starts: from its latest start until its earliest end
 abbrev pub must_run : Domains → ℤ → Task → Bool

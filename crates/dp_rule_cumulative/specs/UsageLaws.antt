@@ -71,17 +71,21 @@ one_more u m n y e h = omega arith
 abbrev pub usage : Task → ℕ
 usage k = k.usage
 
-usage_step : (k : Task) (b c : Bool) (xs ys : List Task) → (b ≡ true → c ≡ true) → sum_by usage xs ≤ sum_by usage ys → sum_by usage (cond b (k ∷ xs) xs) ≤ sum_by usage (cond c (k ∷ ys) ys)
-usage_step k true true xs ys keeps h = both_more k.usage (sum_by usage xs) (sum_by usage ys) _ _ (sum_by-cons usage k xs) (sum_by-cons usage k ys) h
-usage_step k true false xs ys keeps h = absurd (false≢true (keeps refl))
-usage_step k false true xs ys keeps h = one_more k.usage (sum_by usage xs) (sum_by usage ys) _ (sum_by-cons usage k ys) h
-usage_step k false false xs ys keeps h = h
+sum_step : {A : Type 0} (f : A → ℕ) (k : A) (b c : Bool) (xs ys : List A) → (b ≡ true → c ≡ true) → sum_by f xs ≤ sum_by f ys → sum_by f (cond b (k ∷ xs) xs) ≤ sum_by f (cond c (k ∷ ys) ys)
+sum_step f k true true xs ys keeps h = both_more (f k) (sum_by f xs) (sum_by f ys) _ _ (sum_by-cons f k xs) (sum_by-cons f k ys) h
+sum_step f k true false xs ys keeps h = absurd (false≢true (keeps refl))
+sum_step f k false true xs ys keeps h = one_more (f k) (sum_by f xs) (sum_by f ys) _ (sum_by-cons f k ys) h
+sum_step f k false false xs ys keeps h = h
+
+-- where all that pass one test pass another, those that pass the other sum to no less
+pub sum-le : {A : Type 0} (f : A → ℕ) (p r : A → Bool) (ks : List A) → ((k : A) → Among k ks → p k ≡ true → r k ≡ true) → sum_by f (filter p ks) ≤ sum_by f (filter r ks)
+sum-le f p r [] keeps = omega arith
+sum-le f p r (k ∷ ks) keeps =
+    sum_step f k (p k) (r k) (filter p ks) (filter r ks) (keeps k (inl refl)) (sum-le f p r ks (λ j here. keeps j (inr here)))
 
 -- where all tasks that pass one test pass another, those that pass the other use no less
 pub usage-le : (p r : Task → Bool) (ks : List Task) → ((k : Task) → Among k ks → p k ≡ true → r k ≡ true) → usage_of p ks ≤ usage_of r ks
-usage-le p r [] keeps = omega arith
-usage-le p r (k ∷ ks) keeps =
-    usage_step k (p k) (r k) (filter p ks) (filter r ks) (keeps k (inl refl)) (usage-le p r ks (λ j here. keeps j (inr here)))
+usage-le p r ks keeps = sum-le usage p r ks keeps
 
 -- the task is one of these, and none of them has a greater number
 pub record IsGreatest (f : Task → ℤ) (ks : List Task) (k : Task) : Type 0 where

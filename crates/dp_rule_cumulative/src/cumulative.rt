@@ -6,9 +6,9 @@ ghost use Rattle.dp_rule_cumulative.specs.Schedules.{given, schedule_of};
 ghost use Rattle.dp_rule_cumulative.specs.TimeTable.{ClashesCumulative, MeetsCumulative, face_cumulative};
 ghost use Rattle.dp_rule_cumulative.specs.TimeTableLaws.{cumulative_deciding, cumulative_exact, cumulative_lawful, cumulative_sound};
 
-use crate::{
-    Atom, Found, Memory, Rule, State, Steps, Task, TaskRefusal, Term, Test, VarId, given, usage,
-};
+use crate::profile::{is_exceeded, parts_of};
+use crate::turn::{turn, variable_count};
+use crate::{Atom, Found, Memory, Rule, State, Steps, Task, TaskRefusal, Term, Test, VarId, given};
 use dp_domain::{search_explanation, search_turn, term_scope};
 use std::alloc::Global;
 use std::marker::Model;
@@ -102,7 +102,8 @@ impl Test for Cumulative {
     }
 
     fn clash(&self, state: &State) -> Result<bool, Memory> {
-        Ok(state.dead() || usage::has_overload(self.tasks.as_slice(), self.capacity, state))
+        let parts = parts_of(self.tasks.as_slice(), state)?;
+        Ok(state.dead() || is_exceeded(parts.as_slice(), self.capacity))
     }
 }
 
@@ -112,7 +113,11 @@ impl Rule for Cumulative {
         state: &State,
         steps: &mut Steps<L>,
     ) -> Result<Option<Found>, Memory> {
-        search_turn(self, state, steps)
+        if variable_count(self.tasks.as_slice()) != self.scope_len() {
+            return search_turn(self, state, steps);
+        }
+        steps.tick();
+        turn(self.tasks.as_slice(), self.capacity, state)
     }
 
     fn explain(

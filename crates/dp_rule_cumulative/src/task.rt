@@ -1,9 +1,11 @@
 // Tasks.
 
-ghost use Rattle.std.specs.Prelude.{◌≡◌, [], ◌∷◌, length};
+ghost use Rattle.std.specs.Prelude.{◌≡◌, length};
 ghost use Rattle.dp_domain.specs.Terms.{IsTermOf};
-ghost use Rattle.dp_rule_cumulative.specs.Schedules.{earliest_end, latest_start, must_run, usage_of};
+ghost use Rattle.dp_rule_cumulative.specs.Profiles.{IsTime, part_of};
+ghost use Rattle.dp_rule_cumulative.specs.Schedules.{earliest_end, earliest_start, latest_start};
 
+use crate::profile::Part;
 use crate::{State, Term};
 
 /// A task: when it starts, how long it runs, and how much it uses while it runs.
@@ -15,39 +17,42 @@ pub struct Task {
 }
 
 impl Task {
+    /// Its earliest start at the state; 0 where it has none.
+    pub(crate) fn earliest_start(&self, state: &State) -> i128
+        requires { IsTermOf (length state.now) self.now.start }
+        ensures start { result ≡ earliest_start state.now self.now }
+        ensures time { IsTime 63 result }
+    {
+        i128::from(self.start.lower(state).unwrap_or(0))
+    }
+
     /// Its latest start at the state; 0 where it has none.
     pub(crate) fn latest_start(&self, state: &State) -> i128
         requires { IsTermOf (length state.now) self.now.start }
-        ensures { result ≡ latest_start state.now self.now }
+        ensures start { result ≡ latest_start state.now self.now }
+        ensures time { IsTime 63 result }
     {
         i128::from(self.start.upper(state).unwrap_or(0))
     }
 
-    /// Its earliest end at the state: its duration after its earliest start, or after 0 where it has none.
-    fn earliest_end(&self, state: &State) -> i128
+    /// Its earliest end at the state: its duration after its earliest start.
+    pub(crate) fn earliest_end(&self, state: &State) -> i128
         requires { IsTermOf (length state.now) self.now.start }
-        ensures { result ≡ earliest_end state.now self.now }
+        ensures end { result ≡ earliest_end state.now self.now }
+        ensures time { IsTime 65 result }
     {
-        i128::from(self.start.lower(state).unwrap_or(0)) + i128::from(self.duration)
+        self.earliest_start(state) + i128::from(self.duration)
     }
 
-    /// Whether it runs at the time wherever it starts.
-    pub(crate) fn must_run(&self, state: &State, time: i128) -> bool
+    /// The times at which it runs wherever it starts: from its latest start until its earliest end.
+    pub(crate) fn part(&self, state: &State) -> Part
         requires { IsTermOf (length state.now) self.now.start }
-        ensures { result ≡ must_run state.now time self.now }
+        ensures { result ≡ part_of state.now self.now }
     {
-        self.latest_start(state) <= time && time < self.earliest_end(state)
-    }
-
-    /// How much it uses at the time wherever it starts; 0 where it may be idle.
-    pub(crate) fn sure_usage(&self, state: &State, time: i128) -> u64
-        requires { IsTermOf (length state.now) self.now.start }
-        ensures { result ≡ usage_of (must_run state.now time) (self.now ∷ []) }
-    {
-        if self.must_run(state, time) {
-            self.usage
-        } else {
-            0
+        Part {
+            from: self.latest_start(state),
+            last: self.earliest_end(state) - 1,
+            usage: self.usage,
         }
     }
 }
