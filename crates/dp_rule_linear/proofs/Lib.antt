@@ -1,3 +1,9 @@
+pub mod AtMostTurns
+pub mod CloseLaws
+pub mod GivenLaws
+pub mod NarrowLaws
 pub mod Places
+pub mod QuotientLaws
 pub mod RefusalLaws
 pub mod SumSteps
+pub mod SupportLaws

@@ -1,3 +1,5 @@
+pub mod Supports
+pub mod Bounds
 pub mod Forms
 pub mod Refusals
 pub mod AtMost
