@@ -18,11 +18,11 @@ use Rattle.dp_domain.specs.States.{Domains, cut, entails, is_dead, values}
 use Rattle.dp_domain.specs.Turns.{given, given_on, or_else, turn_of}
 use Rattle.dp_domain.proofs.AtomLaws.{le-from_test, lt-from_test, meets-from_not, not-from_meets, test-from_le, test-from_lt}
 use Rattle.dp_domain.proofs.SetLaws.{IsDomain-filter}
-use Rattle.dp_rule_linear.specs.Supports.{IsSupport, bound_by}
-use Rattle.dp_rule_linear.proofs.SupportLaws.{support-bound}
+use Rattle.dp_domain.specs.Supports.{IsSupport, bound_by}
+use Rattle.dp_domain.proofs.SupportLaws.{support-bound}
 use Rattle.dp_rule_linear.specs.AtMost.{face_at_most, test_at_most}
-use Rattle.dp_rule_linear.specs.Bounds.{failing_values, first_bound, fitting}
-use Rattle.dp_rule_linear.specs.Forms.{IsProper, Linear, least_product, least_sum, scope_of, variables}
+use Rattle.dp_rule_linear.specs.Bounds.{failing_values, first_bound, fitting, found_of}
+use Rattle.dp_rule_linear.specs.Forms.{HaveDomains, IsProper, Linear, least_product, least_sum, scope_of, variables}
 use Rattle.dp_rule_linear.specs.FormLaws.{variable_of}
 use Rattle.dp_rule_linear.specs.IntLaws.{least_image-among, least_image-bound}
 use Rattle.dp_rule_linear.proofs.GivenLaws.{given-alone, given-without, nothing-on, turn-clash, turn-given}
@@ -162,10 +162,6 @@ scope_given q d (Some a) proper alive most e =
 pub turn-over : (q : Linear) (d : Domains) → is_dead d ≡ false → in_force d q.condition ≡ true → q.rhs <ℤ least_sum d q.terms → turn_of (face_at_most q) d ≡ Some Clash
 turn-over q d alive on more = turn-clash (face_at_most q) d (test_on q d alive on ∙ over q.rhs (least_sum d q.terms) more)
 
--- the variables of the terms have domains
-abbrev pub HaveDomains : List (ℤ × ℕ) → Domains → Type 0
-HaveDomains ts d = Each (λ (t : ℤ × ℕ). IsDomain (values d t.1)) ts
-
 -- a condition in force and a sum of at most the number
 pub turn-bounds : (q : Linear) (d : Domains) → IsProper q → Covers (scope_of q) d → is_dead d ≡ false → HaveDomains q.terms d → in_force d q.condition ≡ true → least_sum d q.terms ≤ℤ q.rhs
     → turn_of (face_at_most q) d ≡ option_map Atom (first_bound (slack_of q d) d q.terms)
@@ -175,10 +171,10 @@ turn-bounds q d proper covers alive domains on most =
     ∙ terms_given q d q.terms proper alive on most (λ t here.
     (here, Each-among (λ x. x < length d) (variables q.terms) (terms_covered q d covers) t.1 (variable_of q.terms t here), Each-among (λ (t : ℤ × ℕ). IsDomain (values d t.1)) q.terms domains t here)))
 
-in_scope : (q : Linear) (c : Atomic) → IsProper q → q.condition ≡ Some c → Among c.var (scope_of q)
+pub in_scope : (q : Linear) (c : Atomic) → IsProper q → q.condition ≡ Some c → Among c.var (scope_of q)
 in_scope q c proper e = subst (λ xs. Among c.var xs) (sym (scope_some q c proper e)) (among_with c.var c.var (variables q.terms) (inl refl))
 
-other_of_scope : (q : Linear) (c : Atomic) (y : ℕ) → IsProper q → q.condition ≡ Some c → Among y (scope_of q) → ¬ (y ≡ c.var) → Among y (variables q.terms)
+pub other_of_scope : (q : Linear) (c : Atomic) (y : ℕ) → IsProper q → q.condition ≡ Some c → Among y (scope_of q) → ¬ (y ≡ c.var) → Among y (variables q.terms)
 other_of_scope q c y proper e here n = elim (among_with_out y c.var (variables q.terms) (subst (λ xs. Among y xs) (scope_some q c proper e) here)) [
   | inl same ↦ absurd (n same)
   | inr later ↦ later
@@ -207,3 +203,19 @@ turn-none q d c proper alive k off most =
     turn-given (face_at_most q) d None (test_off q d alive none)
     (given-alone (face_at_most q) d c.var (scope_of q) (in_scope q c proper k) (λ y here n. idle_term q d y proper alive none (other_of_scope q c y proper k here n))
     ∙ idle_other q d c.var alive most (apart_some q c proper k))
+
+-- ---- the same as the code finds them
+
+pub bounds_found : (q : Linear) (d : Domains) (s : ℤ) (ts : List (ℤ × ℕ)) (o : Option Atomic) (r : Option Found) → IsProper q → Covers (scope_of q) d → is_dead d ≡ false → HaveDomains q.terms d → in_force d q.condition ≡ true → s ≡ slack_of q d → pos 0 ≤ℤ s
+    → ts ≡ q.terms → o ≡ first_bound s d ts → r ≡ found_of o → r ≡ turn_of (face_at_most q) d
+bounds_found q d s ts o r proper covers alive domains on is sign terms bound found =
+    found ∙ ap found_of (bound ∙ ap (λ z. first_bound z d ts) is ∙ ap (first_bound (slack_of q d) d) terms)
+    ∙ sym (turn-bounds q d proper covers alive domains on (omega (arith, ints)))
+
+pub condition_found : (q : Linear) (d : Domains) (c : Atomic) (s : ℤ) (o : Option Atomic) (r : Option Found) → IsProper q → Covers (scope_of q) d → is_dead d ≡ false → IsDomain (values d c.var) → Some c ≡ q.condition → false ≡ in_force d q.condition → s ≡ slack_of q d → s <ℤ pos 0
+    → o ≡ bound_by (values d c.var) (failing_values d c) c.var → r ≡ found_of o → r ≡ turn_of (face_at_most q) d
+condition_found q d c s o r proper covers alive domain k off is sign bound found =
+    found ∙ ap found_of bound ∙ sym (turn-condition q d c proper covers alive domain (sym k) (ap (in_force d) k ∙ sym off) (omega (arith, ints)))
+
+pub nothing_found : (q : Linear) (d : Domains) (c : Atomic) (s : ℤ) → IsProper q → is_dead d ≡ false → Some c ≡ q.condition → false ≡ in_force d q.condition → s ≡ slack_of q d → pos 0 ≤ℤ s → None ≡ turn_of (face_at_most q) d
+nothing_found q d c s proper alive k off is sign = sym (turn-none q d c proper alive (sym k) (ap (in_force d) k ∙ sym off) (omega (arith, ints)))

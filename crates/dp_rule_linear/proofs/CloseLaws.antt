@@ -14,7 +14,7 @@ use Rattle.dp_domain.specs.Turns.{at_least, at_most, or_else}
 use Rattle.dp_domain.proofs.AtomLaws.{le-from_test, lt-from_test, test-from_le, test-from_lt}
 use Rattle.dp_domain.proofs.SetLaws.{greatest-among, greatest-bound, greatest-is, least-among, least-bound, least-is}
 use Rattle.dp_domain.proofs.TurnLaws.{filter-same}
-use Rattle.dp_rule_linear.specs.Supports.{bound_by, lower_by, upper_by}
+use Rattle.dp_domain.specs.Supports.{bound_by, lower_by, upper_by}
 use Rattle.dp_rule_linear.specs.Bounds.{fitting, near_greatest, near_least}
 use Rattle.dp_rule_linear.specs.Forms.{least_product}
 use Rattle.dp_rule_linear.specs.IntLaws.{least-times, least-times_back}

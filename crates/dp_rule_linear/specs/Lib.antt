@@ -1,4 +1,3 @@
-pub mod Supports
 pub mod Bounds
 pub mod Forms
 pub mod Refusals

@@ -1,11 +1,13 @@
 // Linear constraints as rules: a sum of at most a number, and a sum other than a number.
 #![tactic(auto)]
 
+mod bounds;
 mod form;
 mod lin_le;
 mod lin_ne;
 mod refusal;
 mod sums;
+mod turn;
 
 pub use dp_domain::{Atom, Found, Memory, Rule, State, Steps, Test, VarId};
 pub use lin_le::LinLe;
