@@ -172,7 +172,7 @@ first_there : {A : Type 0} (a b : Option A) → is_some a ≡ true → or_else a
 first_there None b e = absurd (false≢true e)
 first_there (Some a) b e = refl
 
-first_absent : {A : Type 0} (a b : Option A) → is_some a ≡ false → or_else a b ≡ b
+pub first_absent : {A : Type 0} (a b : Option A) → is_some a ≡ false → or_else a b ≡ b
 first_absent None b e = refl
 first_absent (Some a) b e = absurd (true≢false e)
 

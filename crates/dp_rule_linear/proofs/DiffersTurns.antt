@@ -1,10 +1,13 @@
 -- The turns of a sum other than a number.
-use Rattle.std.proofs.Common.{◌≡◌, ℕ, ◌<◌, Bool, true, false, not, ◌&&◌, ◌||◌, ◌⊎◌, List, [], ◌∷◌, length, set, Option, Some, None, option_map, map, ℤ, pos, ◌+ℤ◌, ◌-ℤ◌, ◌*ℤ◌, ◌≤ℤ◌, ◌<ℤ◌, int_le, refl, sym, ◌∙◌, ap, subst, inl, inr, arith}
+use Rattle.std.proofs.Common.{◌≡◌, ℕ, zero, suc, ◌+◌, ◌^◌, ◌<◌, ◌≤◌, FitsSigned, get_or, Bool, true, false, not, ◌&&◌, ◌||◌, ◌⊎◌, List, [], ◌∷◌, length, set, Option, Some, None, option_map, map, ℤ, pos, ◌+ℤ◌, ◌-ℤ◌, ◌*ℤ◌, ◌≤ℤ◌, ◌<ℤ◌, int_le, refl, sym, ◌∙◌, ap, subst, inl, inr, arith}
 use Rattle.std.specs.List.{filter, list_all}
+use mir.Syntax.{w128}
+use mir.Val.{of_z}
 use Rattle.std.proofs.lemmas.Int.{ints}
-use Rattle.std.proofs.lemmas.Bool.{both_ways, cases_eq, false_from_ne_true, not-true, not_from_false, true_from_ne_false}
-use Rattle.dp_base.specs.Lists.{Among, Each}
-use Rattle.dp_base.proofs.Lists.{Among-filter_all, Among-filter_only, Each-among, list_all-at, list_all-from, list_all-not}
+use Rattle.std.proofs.lemmas.List.{get_or_default}
+use Rattle.std.proofs.lemmas.Bool.{both_ways, cases_eq, cases_lt, false_from_ne_true, not-true, not_from_false, true_from_ne_false}
+use Rattle.dp_base.specs.Lists.{Among, Climbs, Each}
+use Rattle.dp_base.proofs.Lists.{Among-filter_all, Among-filter_only, Among-get_or, Contains-from_among, Each-among, Each-get_or, list_all-at, list_all-from, list_all-not}
 use Rattle.dp_domain.specs.Atoms.{Atomic, negated}
 use Rattle.dp_domain.specs.Conditions.{in_force}
 use Rattle.dp_domain.specs.declared.found.Found.{Found}
@@ -18,26 +21,22 @@ use Rattle.dp_domain.proofs.AtomLaws.{order_cases}
 use Rattle.dp_domain.proofs.SetLaws.{IsDomain-filter}
 use Rattle.dp_domain.proofs.StateLaws.{cut-entailed}
 use Rattle.dp_domain.proofs.SupportLaws.{support-all}
-use Rattle.dp_rule_linear.specs.Bounds.{atom_by, failing_values, found_of, unequal}
+use Rattle.dp_rule_linear.specs.Bounds.{AreSingleFrom, IsFirstOpen, atom_by, failing_values, found_of, unequal}
 use Rattle.dp_rule_linear.specs.Differs.{are_single, face_differs, is_same, is_single, test_differs}
 use Rattle.dp_rule_linear.specs.DiffersLaws.{are_single-local, both_true, differs_points, first, is_same_where, only_first, same_where, true_both}
-use Rattle.dp_rule_linear.specs.Forms.{HaveDomains, IsProper, Linear, least_product, least_sum, scope_of, variables}
+use Rattle.dp_rule_linear.specs.Forms.{HaveDomains, IsBounded, IsProper, Linear, least_product, least_sum, scope_of, term_at, variables}
 use Rattle.dp_rule_linear.specs.FormLaws.{variable_in_scope, variable_of}
 use Rattle.dp_rule_linear.specs.IntLaws.{least_image-among, times_keeps, times_turns}
 use Rattle.dp_rule_linear.proofs.AtMostTurns.{condition-support, in_scope, other_of_scope, slack_of}
 use Rattle.dp_rule_linear.proofs.ConditionSteps.{single_negated}
+use Rattle.dp_rule_linear.proofs.FactorLaws.{zero_bits}
 use Rattle.dp_rule_linear.proofs.GivenLaws.{given-alone, given-none, nothing-on, turn-clash, turn-given}
 use Rattle.dp_rule_linear.proofs.NarrowLaws.{IsNarrowed, in_force-other, least_sum-apart, least_sum-moves, narrowed-cut, narrowed-kept, values-kept}
-use Rattle.dp_rule_linear.proofs.Places.{apart_some, climbs_good, condition_covered, scope_none, terms_covered}
-use Rattle.dp_rule_linear.proofs.QuotientLaws.{times_over}
+use Rattle.dp_rule_linear.proofs.Places.{apart_some, climbs_good, condition_covered, length_variables, scope_none, terms_covered, variable_at}
+use Rattle.dp_rule_linear.proofs.QuotientLaws.{next_product}
 use Rattle.dp_rule_linear.proofs.SumSteps.{all_same}
-use Rattle.std.proofs.Math.IntN.{one, *ℤ-one}
 
 -- ---- products
-
-next_product : (a x : ℤ) → a *ℤ (x +ℤ pos 1) ≡ (a *ℤ x) +ℤ a
-unfolding one
-next_product a x = times_over a x (pos 1) ∙ ap (λ z. (a *ℤ x) +ℤ z) (*ℤ-one a)
 
 not_less : (a x y : ℤ) → ¬ (a ≡ pos 0) → a *ℤ x ≡ a *ℤ y → x <ℤ y → ⊥
 not_less a x y some e h =
@@ -252,3 +251,87 @@ turn-condition q d c proper covers alive domain k off single same =
     (given-alone (face_differs q) d c.var (scope_of q) (in_scope q c proper k) (λ y here n. idle_term q d y proper alive none (other_of_scope q c y proper k here n))
     ∙ support-all (face_differs q) d c.var (failing_values d c) h alive (test_off q d alive none)
     (condition-support (face_differs q) d c alive h domain (only_condition q d c proper k single same)) (points q d c.var (in_scope q c proper k)))
+
+-- ---- the same as the code finds them
+
+place_of : (ts : List (ℤ × ℕ)) (t : ℤ × ℕ) → Among t ts → (k : ℕ) × (k < length ts) × (term_at ts k ≡ t)
+place_of ts t here = let c = Contains-from_among t ts here in (c.0, c.1, get_or_default ts c.0 (pos 0, 0) t c.1 ∙ c.2)
+
+-- where each place has one value, all have
+pub are_single_from : (d : Domains) (ts : List (ℤ × ℕ)) → AreSingleFrom d ts 0 → are_single d ts ≡ true
+are_single_from d ts each = list_all-from (λ t. is_single (values d t.1)) ts (λ t here.
+    let p = place_of ts t here in
+    ap (λ (u : ℤ × ℕ). is_single (values d u.1)) (sym p.2) ∙ each p.0 (omega arith) p.1)
+
+climbing_places : (xs : List ℕ) → Climbs xs → (j k : ℕ) → j < k → k < length xs → get_or xs j 0 < get_or xs k 0
+climbing_places [] climbs j k h l = absurd (omega arith)
+climbing_places (x ∷ xs) climbs j zero h l = absurd (omega arith)
+climbing_places (x ∷ xs) climbs zero (suc k) h l = Each-get_or (λ y. x < y) xs k 0 (omega arith) climbs.0
+climbing_places (x ∷ xs) climbs (suc j) (suc k) h l = climbing_places xs climbs.1 j k (omega arith) (omega arith)
+
+apart_places : (ts : List (ℤ × ℕ)) → Climbs (variables ts) → (j k : ℕ) → j < k → k < length ts → ¬ ((term_at ts j).1 ≡ (term_at ts k).1)
+apart_places ts climbs j k h l e =
+    let m : length (variables ts) ≡ length ts = length_variables ts in
+    let p = climbing_places (variables ts) climbs j k h (omega arith) in
+    let a : get_or (variables ts) j 0 ≡ (term_at ts j).1 = variable_at ts j (pos 0, 0) (omega arith) in
+    let b : get_or (variables ts) k 0 ≡ (term_at ts k).1 = variable_at ts k (pos 0, 0) l in
+    omega arith
+
+pub many_found : (q : Linear) (d : Domains) (ts : List (ℤ × ℕ)) (i j : ℕ) → ts ≡ q.terms → IsProper q → is_dead d ≡ false → IsFirstOpen d ts 0 i → IsFirstOpen d ts (i + 1) j → None ≡ turn_of (face_differs q) d
+many_found q d ts i j same proper alive one two =
+    let f : IsFirstOpen d q.terms 0 i = subst (λ us. IsFirstOpen d us 0 i) same one in
+    let g : IsFirstOpen d q.terms (i + 1) j = subst (λ us. IsFirstOpen d us (i + 1) j) same two in
+    let after : i + 1 ≤ j = g.after in
+    sym (turn-many q d (term_at q.terms i) (term_at q.terms j) alive (Among-get_or q.terms i (pos 0, 0) f.within) (Among-get_or q.terms j (pos 0, 0) g.within)
+    (apart_places q.terms (climbs_good q.terms proper.good) i j (omega arith) g.within) f.more g.more)
+
+pub open_off_found : (q : Linear) (d : Domains) (i : ℕ) → IsProper q → is_dead d ≡ false → IsFirstOpen d q.terms 0 i → false ≡ in_force d q.condition → None ≡ turn_of (face_differs q) d
+open_off_found q d i proper alive f off =
+    sym (turn-open_off q d (term_at q.terms i) proper alive (Among-get_or q.terms i (pos 0, 0) f.within) f.more (sym off))
+
+others_single : (d : Domains) (ts : List (ℤ × ℕ)) (i : ℕ) → IsFirstOpen d ts 0 i → AreSingleFrom d ts (i + 1) → (u : ℤ × ℕ) → Among u ts → ¬ (u.1 ≡ (term_at ts i).1) → is_single (values d u.1) ≡ true
+others_single d ts i f rest u here apart =
+    let p = place_of ts u here in
+    ap (λ (t : ℤ × ℕ). is_single (values d t.1)) (sym p.2)
+    ∙ elim (cases_lt p.0 i) [
+      | inl before ↦ f.before p.0 (omega arith) before
+      | inr after ↦ elim (cases_eq p.0 i) [
+        | inl same ↦ absurd (apart (ap (λ (t : ℤ × ℕ). t.1) (sym p.2) ∙ ap (λ (k : ℕ). (term_at ts k).1) same))
+        | inr other ↦ rest p.0 (omega arith) p.1
+      ]
+    ]
+
+pub open_found : (q : Linear) (d : Domains) (i : ℕ) (a : ℤ) (x : ℕ) (n : ℤ) (o : Option Atomic) (r : Option Found) → IsProper q → Covers (scope_of q) d → is_dead d ≡ false → HaveDomains q.terms d → IsFirstOpen d q.terms 0 i → AreSingleFrom d q.terms (i + 1)
+    → true ≡ in_force d q.condition → a ≡ (term_at q.terms i).0 → x ≡ (term_at q.terms i).1 → n ≡ gap_of q d (term_at q.terms i) → o ≡ atom_by (values d x) (unequal n d (a, x)) x → r ≡ found_of o → r ≡ turn_of (face_differs q) d
+open_found q d i a x n o r proper covers alive domains f rest on is_a is_x is_n atom found =
+    let t = term_at q.terms i in
+    found ∙ ap found_of (atom ∙ ap (λ z. atom_by (values d x) (unequal z d (a, x)) x) is_n ∙ ap (λ z. atom_by (values d x) (unequal (gap_of q d t) d (z, x)) x) is_a
+    ∙ ap (λ (y : ℕ). atom_by (values d y) (unequal (gap_of q d t) d (t.0, y)) y) is_x)
+    ∙ sym (turn-open q d t proper covers alive domains (sym on) (Among-get_or q.terms i (pos 0, 0) f.within) (proper.good i f.within).not_zero f.more (others_single d q.terms i f rest))
+
+no_slack : (r s z : ℤ) → z ≡ r -ℤ s → s ≡ r → z ≡ pos 0
+no_slack r s z e f = omega (arith, ints)
+
+from_no_slack : (r s z : ℤ) → z ≡ r -ℤ s → z ≡ pos 0 → s ≡ r
+from_no_slack r s z e f = omega (arith, ints)
+
+bounded_fits : (z : ℤ) → IsBounded (10 ^ 37) z → FitsSigned w128 z
+bounded_fits z h = omega (arith, ints)
+
+pub other_found : (q : Linear) (d : Domains) (s : ℤ) → IsProper q → is_dead d ≡ false → AreSingleFrom d q.terms 0 → s ≡ slack_of q d → (of_z w128 s ≡ 0 → ⊥) → None ≡ turn_of (face_differs q) d
+other_found q d s proper alive single is some =
+    sym (turn-other q d proper alive (are_single_from d q.terms single) (false_from_ne_true (is_same (least_sum d q.terms) q.rhs) (λ t.
+    some (ap (of_z w128) (no_slack q.rhs (least_sum d q.terms) s is (same_where (least_sum d q.terms) q.rhs t))))))
+
+same_found : (q : Linear) (d : Domains) (s : ℤ) → s ≡ slack_of q d → IsBounded (10 ^ 37) s → of_z w128 s ≡ 0 → is_same (least_sum d q.terms) q.rhs ≡ true
+same_found q d s is bounded none =
+    is_same_where (least_sum d q.terms) q.rhs (from_no_slack q.rhs (least_sum d q.terms) s is (zero_bits s (bounded_fits s bounded) none))
+
+pub clash_found : (q : Linear) (d : Domains) (s : ℤ) → is_dead d ≡ false → AreSingleFrom d q.terms 0 → s ≡ slack_of q d → IsBounded (10 ^ 37) s → of_z w128 s ≡ 0 → true ≡ in_force d q.condition → Some Clash ≡ turn_of (face_differs q) d
+clash_found q d s alive single is bounded none on = sym (turn-same q d alive (are_single_from d q.terms single) (same_found q d s is bounded none) (sym on))
+
+pub condition_found : (q : Linear) (d : Domains) (c : Atomic) (s : ℤ) (o : Option Atomic) (r : Option Found) → IsProper q → Covers (scope_of q) d → is_dead d ≡ false → IsDomain (values d c.var) → AreSingleFrom d q.terms 0 → s ≡ slack_of q d → IsBounded (10 ^ 37) s → of_z w128 s ≡ 0
+    → Some c ≡ q.condition → false ≡ in_force d q.condition → o ≡ atom_by (values d c.var) (failing_values d c) c.var → r ≡ found_of o → r ≡ turn_of (face_differs q) d
+condition_found q d c s o r proper covers alive domain single is bounded none k off atom found =
+    found ∙ ap found_of atom
+    ∙ sym (turn-condition q d c proper covers alive domain (sym k) (ap (in_force d) k ∙ sym off) (are_single_from d q.terms single) (same_found q d s is bounded none))

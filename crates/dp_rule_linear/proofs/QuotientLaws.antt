@@ -44,8 +44,9 @@ times_plus a b v =
 pub times_over : (a x y : ℤ) → a *ℤ (x +ℤ y) ≡ (a *ℤ x) +ℤ (a *ℤ y)
 times_over a x y = *ℤ_comm a (x +ℤ y) ∙ times_plus x y a ∙ ap (λ z. z +ℤ (y *ℤ a)) (*ℤ_comm x a) ∙ ap (λ z. (a *ℤ x) +ℤ z) (*ℤ_comm y a)
 
-opposite_by : (x y : ℤ) → x +ℤ y ≡ pos 0 → x ≡ neg_ℤ y
-opposite_by x y e = omega (arith, ints)
+pub next_product : (a x : ℤ) → a *ℤ (x +ℤ pos 1) ≡ (a *ℤ x) +ℤ a
+unfolding one
+next_product a x = times_over a x (pos 1) ∙ ap (λ z. (a *ℤ x) +ℤ z) (*ℤ-one a)
 
 -- the product of the opposites is the product
 pub opposites : (a x : ℤ) → neg_ℤ a *ℤ neg_ℤ x ≡ a *ℤ x
@@ -70,11 +71,10 @@ one_over_by : (p p' y q b : ℤ) → p' ≡ y +ℤ q → p ≡ p' +ℤ b → p �
 one_over_by p p' y q b e f = omega (arith, ints)
 
 one_over : (b y q : ℤ) → b *ℤ ((y +ℤ q) +ℤ pos 1) ≡ (b *ℤ y) +ℤ (q *ℤ b) +ℤ b
-unfolding one
 one_over b y q =
     one_over_by (b *ℤ ((y +ℤ q) +ℤ pos 1)) (b *ℤ (y +ℤ q)) (b *ℤ y) (q *ℤ b) b
     (times_over b y q ∙ ap (λ z. (b *ℤ y) +ℤ z) (*ℤ_comm b q))
-    (times_over b (y +ℤ q) (pos 1) ∙ ap (λ z. (b *ℤ (y +ℤ q)) +ℤ z) (*ℤ-one b))
+    (next_product b (y +ℤ q))
 
 -- a positive factor's product exceeds that of another by at most a number where the factor exceeds the other by at most the quotient
 pub within-quotient : (b x y s : ℤ) → pos 0 <ℤ b → pos 0 ≤ℤ s → int_le (b *ℤ x) (s +ℤ (b *ℤ y)) ≡ int_le x (y +ℤ int_div s b)

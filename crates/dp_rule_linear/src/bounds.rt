@@ -1,15 +1,14 @@
 // The bounds that follow from a sum of at most a number.
 
-ghost use Rattle.std.specs.Prelude.{◌≡◌, ◌≢◌, ℕ, ◌<◌, ◌^◌, ◌≤ℤ◌, IfOk, false, length, pos};
+ghost use Rattle.std.specs.Prelude.{◌≡◌, ◌≢◌, ℕ, ◌<◌, ◌^◌, ◌≤ℤ◌, length, pos};
 ghost use Rattle.dp_base.specs.Lists.{Each};
-ghost use Rattle.dp_domain.specs.Sets.{IsDomain};
-ghost use Rattle.dp_domain.specs.States.{entails, values};
+ghost use Rattle.dp_domain.specs.States.{values};
 ghost use Rattle.dp_domain.specs.Supports.{bound_by};
-ghost use Rattle.dp_rule_linear.specs.Bounds.{failing_values, first_bound, fitting, near_greatest, near_least};
+ghost use Rattle.dp_rule_linear.specs.Bounds.{first_bound, fitting, near_greatest, near_least};
 ghost use Rattle.dp_rule_linear.specs.Forms.{IsBounded, IsGoodAt, variables};
 
-use crate::{Atom, Memory, State, VarId, sums};
-use dp_domain::{Dom, Op, supported_bound};
+use crate::{Atom, State, VarId};
+use dp_domain::Op;
 
 /// The bound on the first of the terms' variables that gets one, where the sum of the least values is
 /// so much below the number.
@@ -78,29 +77,4 @@ fn bound_below(var: VarId, room: i128, state: &State) -> Option<Atom>
     }
     let first = state.set(var).least_from(limit as i64)?;
     Atom::new(var, Op::Ge, first)
-}
-
-/// The bound on the condition's variable where the condition has to fail: by the values that fail it.
-pub fn condition_bound(condition: Atom, state: &State) -> Result<Option<Atom>, Memory>
-    requires covered { condition.var < length state.now }
-    requires open_ { entails state.now condition ≡ false }
-    ensures bound { IfOk result (λ bound. bound ≡ bound_by (values state.now condition.var) (failing_values state.now condition) condition.var) }
-    ensures domain { IfOk result (λ bound. IsDomain (values state.now condition.var)) }
-{
-    let var = condition.var();
-    if sums::is_single(var, state) {
-        return Ok(None);
-    }
-    let failing = failing_values(condition, state)?;
-    Ok(supported_bound(var, state.set(var), &failing))
-}
-
-/// The values of the condition's variable that fail it.
-fn failing_values(condition: Atom, state: &State) -> Result<Dom, Memory>
-    requires { condition.var < length state.now }
-    ensures { IfOk result (λ set. set ≡ failing_values state.now condition) }
-{
-    let mut set = state.set(condition.var()).copy()?;
-    set.exclude(condition.negated())?;
-    Ok(set)
 }

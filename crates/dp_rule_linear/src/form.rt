@@ -73,7 +73,8 @@ impl Form {
 
     /// Its terms.
     pub fn terms(&self) -> &[(i64, VarId)]
-        ensures { result.now ≡ self.now.terms }
+        ensures terms { result.now ≡ self.now.terms }
+        ensures proper { IsProper self.now }
     {
         self.terms.as_slice()
     }

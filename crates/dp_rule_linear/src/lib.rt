@@ -2,12 +2,14 @@
 #![tactic(auto)]
 
 mod bounds;
+mod condition;
 mod form;
 mod lin_le;
 mod lin_ne;
 mod refusal;
 mod sums;
 mod turn;
+mod unequal;
 
 pub use dp_domain::{Atom, Found, Memory, Rule, State, Steps, Test, VarId};
 pub use lin_le::LinLe;

@@ -10,7 +10,8 @@ ghost use Rattle.dp_rule_linear.specs.AtMostLaws.{at_most_deciding, at_most_exac
 ghost use Rattle.dp_rule_linear.specs.Forms.{HaveDomains, IsBounded, IsProper, form_of, least_sum, scope_of};
 ghost use Rattle.dp_rule_linear.specs.Refusals.{IsRefused};
 
-use crate::bounds::{condition_bound, first_bound};
+use crate::bounds::first_bound;
+use crate::condition::condition_bound;
 use crate::form::Form;
 use crate::turn::found;
 use crate::{Atom, Found, LinRefusal, Memory, Rule, State, Steps, Test, VarId};

@@ -5,6 +5,7 @@ ghost use Rattle.dp_base.specs.Lists.{Among, Climbs, Each};
 ghost use Rattle.dp_domain.specs.Sets.{IsDomain, IsSmall};
 ghost use Rattle.dp_domain.specs.States.{values};
 ghost use Rattle.dp_domain.specs.Conditions.{IsApart};
+ghost use Rattle.dp_rule_linear.specs.Bounds.{AreSingleFrom, IsFirstOpen};
 ghost use Rattle.dp_rule_linear.specs.Forms.{HaveDomains, IsBounded, IsGoodAt, least_product, least_sum, variables};
 ghost use Rattle.dp_rule_linear.specs.Refusals.{IsFirstBad};
 ghost use Rattle.dp_base.specs.Scopes.{with_variable};
@@ -80,7 +81,7 @@ fn least_at(coefficient: i64, var: VarId, state: &State) -> Option<i64>
 }
 
 /// The least value of the coefficient times the variable; 0 where the variable has no value.
-fn least_product(coefficient: i64, var: VarId, state: &State) -> i128
+pub fn least_product(coefficient: i64, var: VarId, state: &State) -> i128
     requires bounded { IsBounded (10 ^ 16) coefficient }
     requires covered { var < length state.now }
     ensures least { result ≡ least_product state.now (coefficient, var) }
@@ -120,6 +121,20 @@ pub fn are_single(terms: &[(i64, VarId)], state: &State) -> bool
         }
     }
     true
+}
+
+/// The place of the first term from a place on whose variable has not one value; None where each has.
+pub fn first_open(terms: &[(i64, VarId)], start: usize, state: &State) -> Option<usize>
+    requires { Each (λ x. x < length state.now) (variables terms.now) }
+    ensures { MatchOption result (AreSingleFrom state.now terms.now start) (IsFirstOpen state.now terms.now start) }
+{
+    for place in start..terms.len() {
+        let (_, var) = terms[place];
+        if !is_single(var, state) {
+            return Some(place);
+        }
+    }
+    None
 }
 
 /// Whether the variable has one value.

@@ -3,7 +3,7 @@ use Rattle.std.proofs.Common.{ℕ, ap, ◌∙◌}
 use Rattle.dp_domain.specs.States.{values}
 use Rattle.dp_rule_linear.specs.Differs.{is_single}
 use Rattle.dp_rule_linear.proofs.ConditionSteps.{single_bound}
-use Rattle.dp_rule_linear.proofs.bounds.condition_bound.Goals as goal
+use Rattle.dp_rule_linear.proofs.condition.condition_bound.Goals as goal
 
 pub returns-then-is_single-clause-bound : goal.returns-then-is_single-clause-bound
 returns-then-is_single-clause-bound c =
