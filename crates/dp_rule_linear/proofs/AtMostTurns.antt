@@ -40,8 +40,7 @@ condition-support f d c alive h domain same = record {
   clash = λ p v m t.
       let e = set d c.var (filter p (values d c.var)) in
       let k : values e c.var ≡ filter p (values d c.var) = values-kept d c.var (filter p (values d c.var)) h in
-      let s : f.test e ≡ entails e c = same e (narrowed-kept d c.var p v alive m t) in
-      (
+      let s : f.test e ≡ entails e c = same e (narrowed-kept d c.var p v alive m t) in (
         λ clashes w n u g. both_ways (meets c w)
             (not-from_meets c w (Among-filter_only (meets (negated c)) (values d c.var) w g).1)
             (list_all-at (meets c) (values e c.var) w (sym s ∙ clashes) (subst (λ ys. Among w ys) (sym k) (Among-filter_all p (values d c.var) w n u))),
@@ -122,9 +121,8 @@ term-support q d t proper alive on h domain here = record {
       let k : values e t.1 ≡ filter p (values d t.1) = values-kept d t.1 (filter p (values d t.1)) h in
       let n : IsNarrowed d e t.1 = narrowed-kept d t.1 p v alive m u in
       let s : test_at_most q e ≡ int_lt q.rhs (least_sum e q.terms) =
-          test_on q e n.alive (in_force-other q.condition (variables q.terms) d e t.1 proper.apart (variable_of q.terms t here) n ∙ on) in
-      let moves : least_sum e q.terms +ℤ least_product d t ≡ least_sum d q.terms +ℤ least_product e t = least_sum-moves q.terms d e t (climbs_good q.terms proper.good) here n in
-      (
+      test_on q e n.alive (in_force-other q.condition (variables q.terms) d e t.1 proper.apart (variable_of q.terms t here) n ∙ on) in
+      let moves : least_sum e q.terms +ℤ least_product d t ≡ least_sum d q.terms +ℤ least_product e t = least_sum-moves q.terms d e t (climbs_good q.terms proper.good) here n in (
         λ clashes w a b g. both_ways (int_le (t.0 *ℤ w) (slack_of q d +ℤ least_product d t))
             (test-from_lt (t.0 *ℤ w) (slack_of q d +ℤ least_product d t) (moved_over q.rhs (least_sum d q.terms) (least_sum e q.terms) (least_product d t) (least_product e t) (t.0 *ℤ w)
             moves (over_from q.rhs (least_sum e q.terms) (sym s ∙ clashes))
@@ -134,7 +132,7 @@ term-support q d t proper alive on h domain here = record {
             let r = least_image-among (λ z. t.0 *ℤ z) (values e t.1) v (subst (λ ys. Among v ys) (sym k) (Among-filter_all p (values d t.1) v m u)) in
             let w = Among-filter_only p (values d t.1) r.0 (subst (λ ys. Among r.0 ys) k r.1) in
             let far : int_le (t.0 *ℤ r.0) (slack_of q d +ℤ least_product d t) ≡ false = false_from_ne_true (int_le (t.0 *ℤ r.0) (slack_of q d +ℤ least_product d t))
-                (λ fits. none r.0 w.0 w.1 (Among-filter_all (λ v. int_le (t.0 *ℤ v) (slack_of q d +ℤ least_product d t)) (values d t.1) r.0 w.0 fits)) in
+            (λ fits. none r.0 w.0 w.1 (Among-filter_all (λ v. int_le (t.0 *ℤ v) (slack_of q d +ℤ least_product d t)) (values d t.1) r.0 w.0 fits)) in
             s ∙ over q.rhs (least_sum e q.terms) (over_moved q.rhs (least_sum d q.terms) (least_sum e q.terms) (least_product d t) (least_product e t) (t.0 *ℤ r.0)
             moves r.2 (lt-from_test (t.0 *ℤ r.0) (slack_of q d +ℤ least_product d t) far)),
       );

@@ -159,6 +159,7 @@ term-below s a q d x None r sign h is e found = found ∙ sym (nothing_near (val
     nothing_near : (xs : List ℤ) → None ≡ greatest xs → None ≡ bound_by xs (near_greatest q xs) x
     nothing_near [] e = refl
     nothing_near (y ∷ ys) e = absurd (no_greatest (y ∷ ys) y e (inl refl))
+
     nothing_fits : (xs : List ℤ) → None ≡ greatest xs → None ≡ bound_by xs (filter (λ v. int_le (a *ℤ v) (s +ℤ least_product d (a, x))) xs) x
     nothing_fits [] e = refl
     nothing_fits (y ∷ ys) e = absurd (no_greatest (y ∷ ys) y e (inl refl))

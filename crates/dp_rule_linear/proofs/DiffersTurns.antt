@@ -49,6 +49,7 @@ not_less a x y some e h =
   where
     grows_down : (p q r a : ℤ) → p ≡ q → r ≡ p +ℤ a → q ≤ℤ r → a <ℤ pos 0 → ⊥
     grows_down p q r a e f h k = omega (arith, ints)
+
     grows_up : (p q r a : ℤ) → p ≡ q → r ≡ p +ℤ a → r ≤ℤ q → pos 0 <ℤ a → ⊥
     grows_up p q r a e f h k = omega (arith, ints)
 
@@ -144,10 +145,9 @@ open-support q d t proper alive on h domain here some others = record {
       let k : values e t.1 ≡ filter p (values d t.1) = values-kept d t.1 (filter p (values d t.1)) h in
       let n : IsNarrowed d e t.1 = narrowed-kept d t.1 p v alive m u in
       let s : test_differs q e ≡ (are_single e q.terms && is_same (least_sum e q.terms) q.rhs) =
-          test_on q e n.alive (in_force-other q.condition (variables q.terms) d e t.1 proper.apart (variable_of q.terms t here) n ∙ on) in
+      test_on q e n.alive (in_force-other q.condition (variables q.terms) d e t.1 proper.apart (variable_of q.terms t here) n ∙ on) in
       let moves : least_sum e q.terms +ℤ least_product d t ≡ least_sum d q.terms +ℤ least_product e t = least_sum-moves q.terms d e t (climbs_good q.terms proper.good) here n in
-      let r = least_image-among (λ z. t.0 *ℤ z) (values e t.1) v (subst (λ ys. Among v ys) (sym k) (Among-filter_all p (values d t.1) v m u)) in
-      (
+      let r = least_image-among (λ z. t.0 *ℤ z) (values e t.1) v (subst (λ ys. Among v ys) (sym k) (Among-filter_all p (values d t.1) v m u)) in (
         λ clashes w a b g.
             let both = both_true (are_single e q.terms) (is_same (least_sum e q.terms) q.rhs) (sym s ∙ clashes) in
             let only = only_first (values e t.1) (list_all-at (λ u. is_single (values e u.1)) q.terms t both.0 here) in
@@ -159,11 +159,11 @@ open-support q d t proper alive on h domain here some others = record {
             ∙ moved_same q.rhs (least_sum d q.terms) (least_sum e q.terms) (least_product d t) (least_product e t) moves (same_where (least_sum e q.terms) q.rhs both.1))),
         λ none.
             let each : (w : ℤ) → Among w (values e t.1) → t.0 *ℤ w ≡ gap_of q d t = λ w w_in.
-                let f = Among-filter_only p (values d t.1) w (subst (λ ys. Among w ys) k w_in) in
-                same_where (t.0 *ℤ w) (gap_of q d t) (true_from_ne_false (is_same (t.0 *ℤ w) (gap_of q d t)) (λ differs.
-                none w f.0 f.1 (Among-filter_all (λ v. not (is_same (t.0 *ℤ v) (gap_of q d t))) (values d t.1) w f.0 (not_from_false (is_same (t.0 *ℤ w) (gap_of q d t)) differs)))) in
+            let f = Among-filter_only p (values d t.1) w (subst (λ ys. Among w ys) k w_in) in
+            same_where (t.0 *ℤ w) (gap_of q d t) (true_from_ne_false (is_same (t.0 *ℤ w) (gap_of q d t)) (λ differs.
+            none w f.0 f.1 (Among-filter_all (λ v. not (is_same (t.0 *ℤ v) (gap_of q d t))) (values d t.1) w f.0 (not_from_false (is_same (t.0 *ℤ w) (gap_of q d t)) differs)))) in
             let single : is_single (values e t.1) ≡ true =
-                all_same (values e t.1) r.0 (λ w w_in. times-cancel t.0 w r.0 some (each w w_in ∙ sym (each r.0 r.1))) r.1 in
+            all_same (values e t.1) r.0 (λ w w_in. times-cancel t.0 w r.0 some (each w w_in ∙ sym (each r.0 r.1))) r.1 in
             s ∙ true_both (are_single e q.terms) (is_same (least_sum e q.terms) q.rhs)
             (list_all-from (λ u. is_single (values e u.1)) q.terms (λ u u_in. single_at d e t u n single (others u u_in)))
             (is_same_where (least_sum e q.terms) q.rhs (same_moved q.rhs (least_sum d q.terms) (least_sum e q.terms) (least_product d t) (least_product e t) moves (r.2 ∙ each r.0 r.1))),

@@ -17,6 +17,8 @@ pub use lin_ne::LinNe;
 pub use refusal::LinRefusal;
 
 #[cfg(test)]
+mod bound_tests;
+#[cfg(test)]
 mod tests;
 #[cfg(test)]
 mod turn_tests;

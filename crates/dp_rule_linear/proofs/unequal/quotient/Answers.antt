@@ -14,7 +14,7 @@ returns-then-number-coefficient-ne0 c = λ v small e.
     let ea : to_z w128 (of_z w128 c.from-coefficient.result) ≡ c.args.coefficient = omega (arith, ints, c.from-coefficient.ensures, c.requires.bounded.0, c.requires.bounded.1) in
     let en : to_z w128 (of_z w128 c.args.number) ≡ c.args.number = omega (arith, ints, c.requires.number.0, c.requires.number.1) in
     let q : to_z w128 (of_z w128 (int_div (to_z w128 (of_z w128 c.args.number)) (to_z w128 (of_z w128 c.from-coefficient.result)))) ≡ v =
-        quotient_bits a n _ _ ea en c.requires.number ∙ quotient_of a v n c.requires.not_zero e in
+    quotient_bits a n _ _ ea en c.requires.number ∙ quotient_of a v n c.requires.not_zero e in
     elim c.then-number-coefficient-ne0.branch [
       | then-number-coefficient-ne0-via-then-number-coefficient-ne0 w ↦ w.if-number-coefficient-ne0.true (no_remainder a v n _ _ ea en c.requires.not_zero e)
       | then-number-coefficient-ne0-via-else-number-coefficient-ne0+then-value w ↦ omega (arith, ints, q, small.0, small.1, w.if-value.true)
@@ -28,9 +28,10 @@ returns c =
     let ea : to_z w128 (of_z w128 c.from-coefficient.result) ≡ c.args.coefficient = omega (arith, ints, c.from-coefficient.ensures, c.requires.bounded.0, c.requires.bounded.1) in
     let en : to_z w128 (of_z w128 c.args.number) ≡ c.args.number = omega (arith, ints, c.requires.number.0, c.requires.number.1) in
     let q : to_z w128 (of_z w128 (int_div (to_z w128 (of_z w128 c.args.number)) (to_z w128 (of_z w128 c.from-coefficient.result)))) ≡ int_div n a =
-        quotient_bits a n _ _ ea en c.requires.number in
+    quotient_bits a n _ _ ea en c.requires.number in
     let low = c.if-value.false in
     let high = c.if-value-gt-LARGEST_VALUE.false in
-    let same : to_z w64 (of_z w64 (to_z w128 (of_z w128 (int_div (to_z w128 (of_z w128 c.args.number)) (to_z w128 (of_z w128 c.from-coefficient.result)))))) ≡ int_div n a = omega (arith, ints, q, low, high) in
-    ((omega (arith, ints, low, high), omega (arith, ints, low, high)),
-    ap (λ z. a *ℤ z) same ∙ factor_of a n (remainder_bits a n _ _ ea en c.requires.not_zero c.requires.bounded c.if-number-coefficient-ne0.false))
+    let same : to_z w64 (of_z w64 (to_z w128 (of_z w128 (int_div (to_z w128 (of_z w128 c.args.number)) (to_z w128 (of_z w128 c.from-coefficient.result)))))) ≡ int_div n a = omega (arith, ints, q, low, high) in (
+      (omega (arith, ints, low, high), omega (arith, ints, low, high)),
+      ap (λ z. a *ℤ z) same ∙ factor_of a n (remainder_bits a n _ _ ea en c.requires.not_zero c.requires.bounded c.if-number-coefficient-ne0.false),
+    )

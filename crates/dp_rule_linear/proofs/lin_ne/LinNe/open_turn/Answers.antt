@@ -45,9 +45,9 @@ returns c =
     let proper = subst IsProper c.self.view_is c.terms.ensures.proper in
     let is_a = coefficient_at c.args.self.now c.terms.result.now c.args.place c.index-terms-place.result proper same c.requires.first.within in
     let is_x : (get_or c.terms.result.now c.args.place c.index-terms-place-2.result).1 ≡ (term_at c.args.self.now.terms c.args.place).1 =
-        ap (λ (u : ℤ × ℕ). u.1) (term_same c.terms.result.now c.args.self.now.terms c.args.place c.index-terms-place-2.result same c.requires.first.within) in
+    ap (λ (u : ℤ × ℕ). u.1) (term_same c.terms.result.now c.args.self.now.terms c.args.place c.index-terms-place-2.result same c.requires.first.within) in
     let p : c.least_product.result ≡ least_product c.args.state.now (term_at c.args.self.now.terms c.args.place) =
-        c.least_product.ensures.least ∙ ap (λ z. least_product d (z, (get_or c.terms.result.now c.args.place c.index-terms-place-2.result).1)) is_a ∙ ap (λ (x : ℕ). least_product d (t.0, x)) is_x in
+    c.least_product.ensures.least ∙ ap (λ z. least_product d (z, (get_or c.terms.result.now c.args.place c.index-terms-place-2.result).1)) is_a ∙ ap (λ (x : ℕ). least_product d (t.0, x)) is_x in
     let s : c.slack-slack.result ≡ slack_of c.args.self.now c.args.state.now = subst (λ (q : Linear). c.slack-slack.result ≡ slack_of q d) c.self.view_is c.slack-slack.ensures.slack in
     open_found c.args.self.now d c.args.place _ _ _ _ c.found.result proper c.requires.covers c.requires.alive
     (subst (λ (q : Linear). HaveDomains q.terms c.args.state.now) c.self.view_is c.slack-slack.ensures.domains) c.requires.first c.requires.rest
