@@ -1,3 +1,13 @@
+pub mod AtMostTurns
+pub mod BoundSteps
+pub mod CloseLaws
+pub mod ConditionSteps
+pub mod DiffersTurns
+pub mod FactorLaws
+pub mod GivenLaws
+pub mod NarrowLaws
 pub mod Places
+pub mod QuotientLaws
 pub mod RefusalLaws
 pub mod SumSteps
+pub mod UnequalSteps

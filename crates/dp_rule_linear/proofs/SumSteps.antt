@@ -5,9 +5,9 @@ use mir.Syntax.{w64, w128}
 use mir.Val.{of_z, to_z}
 use Rattle.std.specs.List.{list_all}
 use Rattle.std.proofs.lemmas.Int.{ints, to_z-of_z}
-use Rattle.std.proofs.lemmas.Bool.{both_ways}
+use Rattle.std.proofs.lemmas.Bool.{cases_eq, both_ways}
 use Rattle.std.proofs.lemmas.Bool.Decides.{Decides-eqb, same_from_decides}
-use Rattle.std.proofs.lemmas.List.{drop_all, drop_more}
+use Rattle.std.proofs.lemmas.List.{get_or_default, drop_all, drop_more}
 use Rattle.std.proofs.Math.Nat.{mul-le-mul_left, mul-le-mul_right}
 use Rattle.dp_base.specs.Lists.{Among, Each}
 use Rattle.dp_base.proofs.Lists.{Among-get_or, Each-among, list_all-from}
@@ -17,7 +17,7 @@ use Rattle.dp_domain.proofs.SetLaws.{IsSmall-among, greatest-among, greatest-bou
 use Rattle.dp_rule_linear.specs.Differs.{is_same, is_single}
 use Rattle.dp_rule_linear.specs.DiffersLaws.{first, is_same_where, only_first}
 use Rattle.dp_rule_linear.specs.FormLaws.{variable_of}
-use Rattle.dp_rule_linear.specs.Forms.{IsBounded, least_product, least_sum, total, variables}
+use Rattle.dp_rule_linear.specs.Forms.{HaveDomains, IsBounded, least_product, least_sum, total, variables}
 use Rattle.dp_rule_linear.specs.IntLaws.{least-times, least-times_back}
 
 -- ---- terms at a place
@@ -74,7 +74,7 @@ upper_small xs (Some v) domain e = IsSmall-among xs domain v (greatest-among xs 
 
 -- ---- loops over terms
 
-left_at : (ts : List (ℤ × ℕ)) (i : ℕ) (t : ℤ × ℕ) → i < length ts → t ≡ get_or ts i t → drop i ts ≡ t ∷ drop (i + 1) ts
+pub left_at : (ts : List (ℤ × ℕ)) (i : ℕ) (t : ℤ × ℕ) → i < length ts → t ≡ get_or ts i t → drop i ts ≡ t ∷ drop (i + 1) ts
 left_at ts i t h e = drop_more ts i t h ∙ ap (λ u. u ∷ drop (i + 1) ts) (sym e)
 
 -- what is left to add, one term on
@@ -98,9 +98,10 @@ among_here x ts i t h e same = subst (λ y. Among y (variables ts)) same (variab
 pub record IsSumSoFar (d : Domains) (ts : List (ℤ × ℕ)) (i : ℕ) (sum : ℤ) : Type 0 where
   pub whole : sum +ℤ least_sum d (drop i ts) ≡ least_sum d ts
   pub bounded : IsBounded (i * 10 ^ 25) sum
+  pub domains : (k : ℕ) → k < i → IsDomain (values d (get_or ts k (pos 0, 0)).1)
 
 pub sum_none : (d : Domains) (ts : List (ℤ × ℕ)) → IsSumSoFar d ts 0 (pos 0)
-sum_none d ts = record { whole = omega (arith, ints); bounded = (omega (arith, ints), omega (arith, ints)) }
+sum_none d ts = record { whole = omega (arith, ints); bounded = (omega (arith, ints), omega (arith, ints)); domains = λ k h. absurd (omega arith) }
 
 more_whole : (s p r w n : ℤ) → s +ℤ r ≡ w → r ≡ p +ℤ n → (s +ℤ p) +ℤ n ≡ w
 more_whole s p r w n e f = omega (arith, ints)
@@ -108,11 +109,23 @@ more_whole s p r w n e f = omega (arith, ints)
 more_bounded : (i : ℕ) (s p : ℤ) → IsBounded (i * 10 ^ 25) s → IsBounded (10 ^ 25) p → IsBounded ((i + 1) * 10 ^ 25) (s +ℤ p)
 more_bounded i s p h k = (omega (arith, ints), omega (arith, ints))
 
-pub sum_more : (d : Domains) (ts : List (ℤ × ℕ)) (i : ℕ) (t : ℤ × ℕ) (s p : ℤ) → i < length ts → t ≡ get_or ts i t → p ≡ least_product d t → IsBounded (10 ^ 25) p → IsSumSoFar d ts i s → IsSumSoFar d ts (i + 1) (s +ℤ p)
-sum_more d ts i t s p h e f bounded so_far = record {
+more_domains : (d : Domains) (ts : List (ℤ × ℕ)) (i : ℕ) (t : ℤ × ℕ) → i < length ts → t ≡ get_or ts i t → IsDomain (values d t.1) → ((k : ℕ) → k < i → IsDomain (values d (get_or ts k (pos 0, 0)).1)) → (k : ℕ) → k < i + 1 → IsDomain (values d (get_or ts k (pos 0, 0)).1)
+more_domains d ts i t h e domain so_far k l = elim (cases_eq k i) [
+  | inl same ↦ subst (λ (u : ℤ × ℕ). IsDomain (values d u.1)) (e ∙ get_or_default ts i t (pos 0, 0) h ∙ ap (λ (j : ℕ). get_or ts j (pos 0, 0)) (sym same)) domain
+  | inr other ↦ so_far k (omega arith)
+]
+
+pub sum_more : (d : Domains) (ts : List (ℤ × ℕ)) (i : ℕ) (t : ℤ × ℕ) (s p : ℤ) → i < length ts → t ≡ get_or ts i t → p ≡ least_product d t → IsBounded (10 ^ 25) p → IsDomain (values d t.1) → IsSumSoFar d ts i s → IsSumSoFar d ts (i + 1) (s +ℤ p)
+sum_more d ts i t s p h e f bounded domain so_far = record {
   whole = more_whole s p (least_sum d (drop i ts)) (least_sum d ts) (least_sum d (drop (i + 1) ts)) so_far.whole (total_more (least_product d) ts i t h e ∙ ap (λ n. n +ℤ least_sum d (drop (i + 1) ts)) (sym f));
   bounded = more_bounded i s p so_far.bounded bounded;
+  domains = more_domains d ts i t h e domain so_far.domains;
 }
+
+-- the variables of all terms have domains
+pub have_domains : (d : Domains) (ts : List (ℤ × ℕ)) → ((k : ℕ) → k < length ts → IsDomain (values d (get_or ts k (pos 0, 0)).1)) → HaveDomains ts d
+have_domains d [] each = tt
+have_domains d (t ∷ ts) each = (each 0 (omega arith), have_domains d ts (λ k h. each (suc k) (omega arith)))
 
 pub sum_all : (d : Domains) (ts : List (ℤ × ℕ)) (i : ℕ) (s : ℤ) → length ts ≤ i → IsSumSoFar d ts i s → s ≡ least_sum d ts
 sum_all d ts i s h so_far = none_left s (least_sum d ts) (subst (λ us. s +ℤ least_sum d us ≡ least_sum d ts) (drop_all i ts h) so_far.whole)
@@ -130,7 +143,7 @@ sum_read i s p h k l = omega (arith, ints)
 
 -- ---- one value
 
-all_same : (xs : List ℤ) (v : ℤ) → ((w : ℤ) → Among w xs → w ≡ v) → Among v xs → is_single xs ≡ true
+pub all_same : (xs : List ℤ) (v : ℤ) → ((w : ℤ) → Among w xs → w ≡ v) → Among v xs → is_single xs ≡ true
 all_same [] v same here = absurd here
 all_same (x ∷ xs) v same here = list_all-from (λ y. is_same y x) xs (λ w there. is_same_where w x (same w (inr there) ∙ sym (same x (inl refl))))
 

@@ -20,12 +20,12 @@ use Rattle.dp_base.proofs.ScopeLaws.{climbs_in_order}
 
 -- ---- equal numbers
 
-both_true : (a b : Bool) → (a && b) ≡ true → (a ≡ true) × (b ≡ true)
+pub both_true : (a b : Bool) → (a && b) ≡ true → (a ≡ true) × (b ≡ true)
 both_true true true e = (refl, refl)
 both_true true false e = absurd (false≢true e)
 both_true false b e = absurd (false≢true e)
 
-true_both : (a b : Bool) → a ≡ true → b ≡ true → (a && b) ≡ true
+pub true_both : (a b : Bool) → a ≡ true → b ≡ true → (a && b) ≡ true
 true_both true b e f = f
 true_both false b e f = absurd (false≢true e)
 
@@ -77,7 +77,7 @@ list_all-same : {A : Type 0} (p q : A → Bool) (xs : List A) → ((x : A) → A
 list_all-same p q [] each = refl
 list_all-same p q (x ∷ xs) each = ap (λ b. b && list_all p xs) (each x (inl refl)) ∙ ap (λ b. q x && b) (list_all-same p q xs (λ y here. each y (inr here)))
 
-are_single-local : (ts : List (ℤ × ℕ)) (d e : Domains) → AgreesOn (variables ts) d e → are_single d ts ≡ are_single e ts
+pub are_single-local : (ts : List (ℤ × ℕ)) (d e : Domains) → AgreesOn (variables ts) d e → are_single d ts ≡ are_single e ts
 are_single-local ts d e agrees =
     list_all-same (λ t. is_single (values d t.1)) (λ t. is_single (values e t.1)) ts (λ t here. ap is_single (agrees t.1 (variable_of ts t here)))
 

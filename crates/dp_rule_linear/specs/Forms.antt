@@ -2,8 +2,9 @@
 use Rattle.std.specs.Prelude.{◌≡◌, ◌≢◌, ℕ, ◌+◌, ◌^◌, ◌<◌, ◌≤◌, Option, unwrap_or, List, [], ◌∷◌, length, map, get_or, ℤ, pos, neg_ℤ, ◌+ℤ◌, ◌*ℤ◌, ◌≤ℤ◌}
 use Rattle.dp_domain.specs.Atoms.{Atomic}
 use Rattle.dp_domain.specs.Conditions.{IsApart, with_condition}
-use Rattle.dp_domain.specs.Sets.{least}
+use Rattle.dp_domain.specs.Sets.{IsDomain, least}
 use Rattle.dp_domain.specs.States.{Domains, values}
+use Rattle.dp_base.specs.Lists.{Each}
 use Rattle.dp_base.specs.Scopes.{in_order}
 
 -- an atom that the constraint waits for, if any; terms, each a coefficient and a variable; and a number
@@ -40,6 +41,10 @@ least_product d t = unwrap_or (least (products d t)) (pos 0)
 -- the sum of each term's least value
 abbrev pub least_sum : Domains → List (ℤ × ℕ) → ℤ
 least_sum d ts = total (least_product d) ts
+
+-- the values of each term's variable are a domain
+abbrev pub HaveDomains : List (ℤ × ℕ) → Domains → Type 0
+HaveDomains ts d = Each (λ t. IsDomain (values d t.1)) ts
 
 -- the variables of the terms
 abbrev pub variables : List (ℤ × ℕ) → List ℕ

@@ -1,3 +1,4 @@
+pub mod Bounds
 pub mod Forms
 pub mod Refusals
 pub mod AtMost

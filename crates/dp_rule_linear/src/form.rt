@@ -1,11 +1,11 @@
 // What the two kinds share: a condition, terms and a number.
 
-ghost use Rattle.std.specs.Prelude.{◌≡◌, ℕ, ◌+◌, ◌<◌, ◌==◌, Some, IfOk, IfErr, length, slice_get};
+ghost use Rattle.std.specs.Prelude.{◌≡◌, ℕ, ◌+◌, ◌<◌, ◌==◌, Some, IfOk, IfErr, length, slice_get, ◌^◌, ◌-ℤ◌};
 ghost use Rattle.std.specs.List.{list_any};
 ghost use Rattle.dp_base.specs.Lists.{Each};
 ghost use Rattle.dp_domain.specs.Faces.{Covers};
 ghost use Rattle.dp_domain.specs.Conditions.{IsApart, in_force};
-ghost use Rattle.dp_rule_linear.specs.Forms.{IsProper, Linear, form_of, least_sum, scope_of, variables};
+ghost use Rattle.dp_rule_linear.specs.Forms.{HaveDomains, IsBounded, IsProper, Linear, form_of, least_sum, scope_of, variables};
 ghost use Rattle.dp_rule_linear.specs.Differs.{are_single};
 ghost use Rattle.dp_rule_linear.specs.Refusals.{IsRefused};
 
@@ -73,7 +73,8 @@ impl Form {
 
     /// Its terms.
     pub fn terms(&self) -> &[(i64, VarId)]
-        ensures { result.now ≡ self.now.terms }
+        ensures terms { result.now ≡ self.now.terms }
+        ensures proper { IsProper self.now }
     {
         self.terms.as_slice()
     }
@@ -138,6 +139,17 @@ impl Form {
         ensures { result ≡ least_sum state.now self.now.terms }
     {
         sums::least_sum(&self.terms, state)
+    }
+
+    /// How much the sum of each term's least value is below the number.
+    pub fn slack(&self, state: &State) -> i128
+        requires { Covers (scope_of self.now) state.now }
+        ensures slack { result ≡ self.now.rhs -ℤ least_sum state.now self.now.terms }
+        ensures bounded { IsBounded (10 ^ 37) result }
+        ensures domains { HaveDomains self.now.terms state.now }
+        ensures proper { IsProper self.now }
+    {
+        self.rhs - sums::least_sum(&self.terms, state)
     }
 
     /// Whether each variable of its terms has one value.

@@ -1,14 +1,21 @@
 // A sum of at most a number.
 
-ghost use Rattle.std.specs.Prelude.{◌≡◌, IfOk, IfErr};
+ghost use Rattle.std.specs.Prelude.{◌≡◌, ◌^◌, ◌-ℤ◌, IfOk, IfErr, false, true};
+ghost use Rattle.dp_domain.specs.Conditions.{in_force};
+ghost use Rattle.dp_domain.specs.Faces.{Covers};
+ghost use Rattle.dp_domain.specs.States.{is_dead};
+ghost use Rattle.dp_domain.specs.Turns.{turn_of};
 ghost use Rattle.dp_rule_linear.specs.AtMost.{ClashesAtMost, MeetsAtMost, face_at_most};
 ghost use Rattle.dp_rule_linear.specs.AtMostLaws.{at_most_deciding, at_most_exact, at_most_lawful, at_most_sound};
-ghost use Rattle.dp_rule_linear.specs.Forms.{IsProper, form_of};
+ghost use Rattle.dp_rule_linear.specs.Forms.{HaveDomains, IsBounded, IsProper, form_of, least_sum, scope_of};
 ghost use Rattle.dp_rule_linear.specs.Refusals.{IsRefused};
 
+use crate::bounds::first_bound;
+use crate::condition::condition_bound;
 use crate::form::Form;
+use crate::turn::found;
 use crate::{Atom, Found, LinRefusal, Memory, Rule, State, Steps, Test, VarId};
-use dp_domain::{search_explanation, search_turn};
+use dp_domain::search_explanation;
 use std::marker::Model;
 use std::sync::ledger::Ledger;
 
@@ -60,6 +67,40 @@ impl LinLe {
     {
         self.form.rhs()
     }
+
+    /// Its turn at a nonempty state, in one pass for the sum of the least values and one for the bounds.
+    fn turn(&self, state: &State) -> Result<Option<Found>, Memory>
+        requires covers { Covers (scope_of self.now) state.now }
+        requires alive { is_dead state.now ≡ false }
+        ensures { IfOk result (λ turn. turn ≡ turn_of (face_at_most self.now) state.now) }
+    {
+        let slack = self.form.slack(state);
+        if self.form.in_force(state) {
+            return Ok(self.in_force_turn(slack, state));
+        }
+        match self.form.condition() {
+            Some(condition) if slack < 0 => Ok(found(condition_bound(condition, state)?)),
+            _ => Ok(None),
+        }
+    }
+
+    /// Its turn where its condition is absent or entailed and the sum of the least values is so much
+    /// below the right side.
+    fn in_force_turn(&self, slack: i128, state: &State) -> Option<Found>
+        requires covers { Covers (scope_of self.now) state.now }
+        requires alive { is_dead state.now ≡ false }
+        requires in_force { in_force state.now self.now.condition ≡ true }
+        requires slack { slack ≡ self.now.rhs -ℤ least_sum state.now self.now.terms }
+        requires bounded { IsBounded (10 ^ 37) slack }
+        requires domains { HaveDomains self.now.terms state.now }
+        requires proper { IsProper self.now }
+        ensures { result ≡ turn_of (face_at_most self.now) state.now }
+    {
+        if slack < 0 {
+            return Some(Found::Clash);
+        }
+        found(first_bound(self.form.terms(), slack, state))
+    }
 }
 
 impl Test for LinLe {
@@ -103,7 +144,8 @@ impl Rule for LinLe {
         state: &State,
         steps: &mut Steps<L>,
     ) -> Result<Option<Found>, Memory> {
-        search_turn(self, state, steps)
+        steps.tick();
+        self.turn(state)
     }
 
     fn explain(

@@ -1,14 +1,22 @@
 // A sum other than a number.
 
-ghost use Rattle.std.specs.Prelude.{◌≡◌, IfOk, IfErr};
+ghost use Rattle.std.specs.Prelude.{◌≡◌, ◌+◌, IfOk, IfErr, false};
+ghost use Rattle.dp_domain.specs.Faces.{Covers};
+ghost use Rattle.dp_domain.specs.States.{is_dead};
+ghost use Rattle.dp_domain.specs.Turns.{turn_of};
+ghost use Rattle.dp_rule_linear.specs.Bounds.{AreSingleFrom, IsFirstOpen};
 ghost use Rattle.dp_rule_linear.specs.Differs.{ClashesDiffers, MeetsDiffers, face_differs};
 ghost use Rattle.dp_rule_linear.specs.DiffersLaws.{differs_deciding, differs_exact, differs_lawful, differs_sound};
-ghost use Rattle.dp_rule_linear.specs.Forms.{IsProper, form_of};
+ghost use Rattle.dp_rule_linear.specs.Forms.{IsProper, form_of, scope_of};
 ghost use Rattle.dp_rule_linear.specs.Refusals.{IsRefused};
 
+use crate::condition::condition_atom;
 use crate::form::Form;
+use crate::sums::{first_open, least_product};
+use crate::turn::found;
+use crate::unequal::unequal_atom;
 use crate::{Atom, Found, LinRefusal, Memory, Rule, State, Steps, Test, VarId};
-use dp_domain::{search_explanation, search_turn};
+use dp_domain::search_explanation;
 use std::marker::Model;
 use std::sync::ledger::Ledger;
 
@@ -60,6 +68,59 @@ impl LinNe {
     {
         self.form.rhs()
     }
+
+    /// Its turn at a nonempty state, in a pass up to the second variable with several values, and
+    /// where there is none in one pass more for the sum.
+    fn turn(&self, state: &State) -> Result<Option<Found>, Memory>
+        requires covers { Covers (scope_of self.now) state.now }
+        requires alive { is_dead state.now ≡ false }
+        ensures { IfOk result (λ turn. turn ≡ turn_of (face_differs self.now) state.now) }
+    {
+        let terms = self.form.terms();
+        match first_open(terms, 0, state) {
+            Some(place) => match first_open(terms, place + 1, state) {
+                Some(_) => Ok(None),
+                None => self.open_turn(place, state),
+            },
+            None => self.single_turn(state),
+        }
+    }
+
+    /// Its turn where only the variable of the term at the place has several values.
+    fn open_turn(&self, place: usize, state: &State) -> Result<Option<Found>, Memory>
+        requires covers { Covers (scope_of self.now) state.now }
+        requires alive { is_dead state.now ≡ false }
+        requires first { IsFirstOpen state.now self.now.terms 0 place }
+        requires rest { AreSingleFrom state.now self.now.terms (place + 1) }
+        ensures { IfOk result (λ turn. turn ≡ turn_of (face_differs self.now) state.now) }
+    {
+        let slack = self.form.slack(state);
+        if !self.form.in_force(state) {
+            return Ok(None);
+        }
+        let (coefficient, var) = self.form.terms()[place];
+        let number = slack + least_product(coefficient, var, state);
+        Ok(found(unequal_atom(coefficient, var, number, state)?))
+    }
+
+    /// Its turn where each variable of the terms has one value.
+    fn single_turn(&self, state: &State) -> Result<Option<Found>, Memory>
+        requires covers { Covers (scope_of self.now) state.now }
+        requires alive { is_dead state.now ≡ false }
+        requires single { AreSingleFrom state.now self.now.terms 0 }
+        ensures { IfOk result (λ turn. turn ≡ turn_of (face_differs self.now) state.now) }
+    {
+        if self.form.slack(state) != 0 {
+            return Ok(None);
+        }
+        if self.form.in_force(state) {
+            return Ok(Some(Found::Clash));
+        }
+        match self.form.condition() {
+            Some(condition) => Ok(found(condition_atom(condition, state)?)),
+            None => Ok(None),
+        }
+    }
 }
 
 impl Test for LinNe {
@@ -105,7 +166,8 @@ impl Rule for LinNe {
         state: &State,
         steps: &mut Steps<L>,
     ) -> Result<Option<Found>, Memory> {
-        search_turn(self, state, steps)
+        steps.tick();
+        self.turn(state)
     }
 
     fn explain(

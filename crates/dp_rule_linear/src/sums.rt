@@ -2,10 +2,11 @@
 
 ghost use Rattle.std.specs.Prelude.{◌≡◌, ℕ, ◌^◌, ◌<◌, ◌≤◌, ◌↔◌, Some, IfNone, IfSome, IsTrue, MatchOption, length, slice_get, pos, ◌*ℤ◌};
 ghost use Rattle.dp_base.specs.Lists.{Among, Climbs, Each};
-ghost use Rattle.dp_domain.specs.Sets.{IsSmall};
+ghost use Rattle.dp_domain.specs.Sets.{IsDomain, IsSmall};
 ghost use Rattle.dp_domain.specs.States.{values};
 ghost use Rattle.dp_domain.specs.Conditions.{IsApart};
-ghost use Rattle.dp_rule_linear.specs.Forms.{IsBounded, IsGoodAt, least_product, least_sum, variables};
+ghost use Rattle.dp_rule_linear.specs.Bounds.{AreSingleFrom, IsFirstOpen};
+ghost use Rattle.dp_rule_linear.specs.Forms.{HaveDomains, IsBounded, IsGoodAt, least_product, least_sum, variables};
 ghost use Rattle.dp_rule_linear.specs.Refusals.{IsFirstBad};
 ghost use Rattle.dp_base.specs.Scopes.{with_variable};
 ghost use Rattle.dp_rule_linear.specs.Differs.{are_single, is_single};
@@ -70,6 +71,7 @@ fn least_at(coefficient: i64, var: VarId, state: &State) -> Option<i64>
     ensures none { IfNone result (least_product state.now (coefficient, var) ≡ pos 0) }
     ensures least { IfSome result (λ v. coefficient *ℤ v ≡ least_product state.now (coefficient, var)) }
     ensures small { IfSome result IsSmall }
+    ensures domain { IsDomain (values state.now var) }
 {
     if coefficient > 0 {
         state.lower(var)
@@ -79,11 +81,12 @@ fn least_at(coefficient: i64, var: VarId, state: &State) -> Option<i64>
 }
 
 /// The least value of the coefficient times the variable; 0 where the variable has no value.
-fn least_product(coefficient: i64, var: VarId, state: &State) -> i128
+pub fn least_product(coefficient: i64, var: VarId, state: &State) -> i128
     requires bounded { IsBounded (10 ^ 16) coefficient }
     requires covered { var < length state.now }
     ensures least { result ≡ least_product state.now (coefficient, var) }
     ensures bounded { IsBounded (10 ^ 25) result }
+    ensures domain { IsDomain (values state.now var) }
 {
     match least_at(coefficient, var, state) {
         Some(value) => product(coefficient, value),
@@ -96,7 +99,9 @@ pub fn least_sum(terms: &[(i64, VarId)], state: &State) -> i128
     requires few { length terms.now ≤ 2000000 }
     requires good { (k : ℕ) → k < length terms.now → IsGoodAt terms.now k }
     requires covered { Each (λ x. x < length state.now) (variables terms.now) }
-    ensures { result ≡ least_sum state.now terms.now }
+    ensures sum { result ≡ least_sum state.now terms.now }
+    ensures bounded { IsBounded (10 ^ 32) result }
+    ensures domains { HaveDomains terms.now state.now }
 {
     let mut sum = 0;
     for (coefficient, var) in terms {
@@ -118,10 +123,25 @@ pub fn are_single(terms: &[(i64, VarId)], state: &State) -> bool
     true
 }
 
+/// The place of the first term from a place on whose variable has not one value; None where each has.
+pub fn first_open(terms: &[(i64, VarId)], start: usize, state: &State) -> Option<usize>
+    requires { Each (λ x. x < length state.now) (variables terms.now) }
+    ensures { MatchOption result (AreSingleFrom state.now terms.now start) (IsFirstOpen state.now terms.now start) }
+{
+    for place in start..terms.len() {
+        let (_, var) = terms[place];
+        if !is_single(var, state) {
+            return Some(place);
+        }
+    }
+    None
+}
+
 /// Whether the variable has one value.
-fn is_single(var: VarId, state: &State) -> bool
+pub fn is_single(var: VarId, state: &State) -> bool
     requires { var < length state.now }
-    ensures { result ≡ is_single (values state.now var) }
+    ensures single { result ≡ is_single (values state.now var) }
+    ensures domain { IsDomain (values state.now var) }
 {
     match (state.lower(var), state.upper(var)) {
         (Some(lower), Some(upper)) => lower == upper,

@@ -13,12 +13,12 @@ is_single-requires c = covered_at _ c.args.terms.now c.loop-var.var-index c.loop
 pub returns-then-not-is_single : goal.returns-then-not-is_single
 returns-then-not-is_single c =
     let e = all_more (λ t. is_single (values c.args.state.now t.1)) c.args.terms.now c.loop-var.var-index c.loop-var-item.result c.loop-var-test.true c.loop-var-item.is in
-    sym (c.loop-var.invariant ∙ e ∙ ap (λ b. b && list_all (λ t. is_single (values c.args.state.now t.1)) (drop (c.loop-var.var-index + 1) c.args.terms.now)) (sym c.is_single.ensures ∙ c.if-not-is_single.true))
+    sym (c.loop-var.invariant ∙ e ∙ ap (λ b. b && list_all (λ t. is_single (values c.args.state.now t.1)) (drop (c.loop-var.var-index + 1) c.args.terms.now)) (sym c.is_single.ensures.single ∙ c.if-not-is_single.true))
 
 pub loop-var-preserved : goal.loop-var-preserved
 loop-var-preserved c =
     let e = all_more (λ t. is_single (values c.args.state.now t.1)) c.args.terms.now c.loop-var.var-index c.loop-var-item.result c.loop-var-test.true c.loop-var-item.is in
-    c.loop-var.invariant ∙ e ∙ ap (λ b. b && list_all (λ t. is_single (values c.args.state.now t.1)) (drop (c.loop-var.var-index + 1) c.args.terms.now)) (sym c.is_single.ensures ∙ c.if-not-is_single.false)
+    c.loop-var.invariant ∙ e ∙ ap (λ b. b && list_all (λ t. is_single (values c.args.state.now t.1)) (drop (c.loop-var.var-index + 1) c.args.terms.now)) (sym c.is_single.ensures.single ∙ c.if-not-is_single.false)
 
 pub returns : goal.returns
 returns c = sym (c.loop-var.invariant ∙ ap (are_single c.args.state.now) (drop_all c.loop-var.var-index c.args.terms.now c.loop-var-test.false))
