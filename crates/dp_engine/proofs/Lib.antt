@@ -6,3 +6,8 @@ pub mod SearchSteps
 pub mod StateSteps
 pub mod EngineSteps
 pub mod TestProblem
+pub mod LocalLaws
+pub mod WokenLaws
+pub mod RosterLaws
+pub mod StepLaws
+pub mod TrackedLaws

@@ -3,3 +3,5 @@ pub mod Turns
 pub mod Runs
 pub mod Engines
 pub mod Searches
+pub mod Rosters
+pub mod Woken

@@ -1,38 +1,44 @@
 // The engine: turn after turn over a problem and nogoods, and back again.
 
-ghost use Rattle.std.specs.Prelude.{◌≡◌, ℕ, ◌^◌, ◌+◌, ◌-◌, ◌<◌, ◌≤◌, not, [], ◌∷◌, ◌++◌, length, take, IfOk, OnOk, OnErr};
+ghost use Rattle.std.specs.Prelude.{◌≡◌, ℕ, ◌^◌, ◌+◌, ◌-◌, ◌<◌, ◌≤◌, not, [], ◌∷◌, ◌++◌, length, take, IfOk, MatchResult, OnOk, OnErr};
 ghost use Rattle.dp_base.specs.Lists.{Each};
 ghost use Rattle.dp_domain.specs.States.{AreOf, cut_all, is_dead};
 ghost use Rattle.dp_engine.specs.Engines.{Begins, Extends, HaveCount, IsEngine, KeepsParts, KeepsStates, Starts, parts_of, states};
 ghost use Rattle.dp_engine.specs.Turns.{IsTurnAt, applied, atoms_of, turn_at};
+ghost use Rattle.dp_engine.specs.Woken.{ArePlaces, IsCounted, with_touched, woken_after};
 
-use crate::search::turn_at;
+use crate::occurrences::Occurrences;
+use crate::roster::Roster;
+use crate::search::first_turn;
 use crate::states::{advance, rewind};
+use crate::woken::Woken;
 use crate::{Atom, Memory, Nogood, Problem, State, Steps, Turn};
 use std::alloc::Global;
 use std::marker::Model;
 use std::sync::ledger::Ledger;
 
 /// An engine: a problem and nogoods, whose parts take turns, and the list of states so far, the
-/// present one last.
+/// present one last. Of the parts those alone are asked that are woken: one that had no turn rests until
+/// the set of one of its variables changes.
 #[derive(Drop)]
 pub struct Engine<'p> {
     problem: &'p Problem,
-    given: &'p [Nogood],
-    added: Vec<Nogood>,
+    roster: Roster<'p>,
+    occurrences: Occurrences,
+    woken: Woken,
     past: Vec<State>,
     present: State,
 }
 
 impl<'p> Model for Engine<'p> {
-    ghost use Rattle.std.specs.Prelude.{◌++◌};
-    ghost use Rattle.dp_engine.specs.Engines.{IsEngine, Propagation};
+    ghost use Rattle.dp_engine.specs.Engines.{Propagation};
+    ghost use Rattle.dp_engine.specs.Woken.{IsTracked, owed_of};
 
     ghost Value = { Propagation };
 
-    ghost view = { λ e. record { problem = e.problem.now; nogoods = e.given.now ++ e.added.items; past = e.past.items; present = e.present; owed = 0 } };
+    ghost view = { λ e. record { problem = e.problem.now; nogoods = e.roster.nogoods; past = e.past.items; present = e.present; owed = owed_of e.woken } };
 
-    ghost invariant = { λ e. IsEngine (record { problem = e.problem.now; nogoods = e.given.now ++ e.added.items; past = e.past.items; present = e.present; owed = 0 }) };
+    ghost invariant = { λ e. IsTracked (record { problem = e.problem.now; nogoods = e.roster.nogoods; past = e.past.items; present = e.present; owed = owed_of e.woken }) e.roster e.occurrences e.woken };
 }
 
 impl<'p> Engine<'p> {
@@ -46,12 +52,17 @@ impl<'p> Engine<'p> {
         requires nogoods { Each (AreOf problem.now.initial) nogoods.now }
         ensures { IfOk result (Starts problem.now nogoods.now) }
     {
+        let roster = Roster::new(alloc, problem, nogoods)?;
+        let present = problem.initial().copy()?;
+        let occurrences = roster.occurrences(alloc, present.len())?;
+        let woken = Woken::all(alloc, roster.len())?;
         Ok(Engine {
             problem,
-            given: nogoods,
-            added: Vec::new(alloc),
+            roster,
+            occurrences,
+            woken,
             past: Vec::new(alloc),
-            present: problem.initial().copy()?,
+            present,
         })
     }
 
@@ -74,12 +85,14 @@ impl<'p> Engine<'p> {
         ensures unchanged { OnErr result (KeepsStates self.old self.new) }
     {
         advance(&mut self.past, &mut self.present, atoms)?;
+        wake_touched(&mut self.woken, &self.occurrences, atoms);
         Ok(!self.present.dead())
     }
 
     /// The turn at the present state, which is then applied: Empty exactly where some variable has no
     /// value left; else what the first part gives that clashes, or from which a new atom follows; else
-    /// Quiet. Want of memory leaves the engine's parts and states as they were.
+    /// Quiet. Want of memory leaves the engine's parts and states as they were. Each part that is asked ticks once, and only parts
+    /// that are owed a search are asked.
     pub fn step<L: Ledger>(&mut self, steps: &mut Steps<L>) -> Result<Turn, Memory>
         ensures turn { IfOk result (λ turn. turn ≡ turn_at (parts_of self.old) self.old.present) }
         ensures meaning { IfOk result (IsTurnAt (parts_of self.old) self.old.present) }
@@ -87,16 +100,26 @@ impl<'p> Engine<'p> {
         ensures present { IfOk result (λ turn. self.new.present ≡ applied self.old.present turn) }
         ensures states { Extends self.old self.new }
         ensures unchanged { OnErr result (KeepsStates self.old self.new) }
+        ensures counted { (searches : ℕ) × (steps.new ≡ steps.old + searches) × MatchResult result (IsCounted (parts_of self.old) self.old.owed searches self.new.owed) (λ e. searches + self.new.owed ≤ self.old.owed + 1) }
     {
-        let turn = turn_at(
-            self.problem,
-            self.given,
-            self.added.as_slice(),
-            &self.present,
-            steps,
-        )?;
-        apply(&mut self.past, &mut self.present, &turn)?;
-        Ok(turn)
+        if self.present.dead() {
+            return Ok(Turn::Empty);
+        }
+        let found = first_turn(&self.roster, &mut self.woken, &self.present, steps)?;
+        match found {
+            None => Ok(Turn::Quiet),
+            Some((place, turn)) => {
+                apply(
+                    &mut self.past,
+                    &mut self.present,
+                    &mut self.woken,
+                    &self.occurrences,
+                    place,
+                    &turn,
+                )?;
+                Ok(turn)
+            }
+        }
     }
 
     /// The place of the present state in the list of states.
@@ -113,6 +136,7 @@ impl<'p> Engine<'p> {
         ensures states { states self.new ≡ take (mark + 1) (states self.old) }
     {
         rewind(&mut self.past, &mut self.present, mark);
+        self.woken.wake_all();
     }
 
     /// Adds a nogood at the next place. Want of memory leaves the engine as it was.
@@ -124,22 +148,56 @@ impl<'p> Engine<'p> {
         ensures states { KeepsStates self.old self.new }
         ensures unchanged { OnErr result (self.new.nogoods ≡ self.old.nogoods) }
     {
-        self.added.push(nogood)?;
+        self.woken.push()?;
+        let added = self.roster.add(nogood, &mut self.occurrences);
+        if added.is_err() {
+            self.woken.pop();
+            return Err(Memory);
+        }
         Ok(())
     }
 }
 
-/// Applies a turn: an atom leads on to the state that it cuts.
-fn apply(past: &mut Vec<State>, present: &mut State, turn: &Turn) -> Result<(), Memory>
-    requires { AreOf present.old (atoms_of turn.now) }
+/// Wakes the parts on the atoms' variables.
+fn wake_touched(woken: &mut Woken, occurrences: &Occurrences, atoms: &[Atom])
+    requires atoms { Each (λ a. a.var < length occurrences.now) atoms.now }
+    requires places { ArePlaces (length woken.old) occurrences.now }
+    ensures { woken.new ≡ with_touched woken.old occurrences.now atoms.now }
+{
+    for atom in atoms {
+        woken.wake_each(occurrences.on(atom.var()));
+    }
+}
+
+/// Applies the turn of the part at the place: an atom leads on to the state that it cuts, and its part
+/// rests until the parts on the atom's variable are woken.
+fn apply(
+    past: &mut Vec<State>,
+    present: &mut State,
+    woken: &mut Woken,
+    occurrences: &Occurrences,
+    place: usize,
+    turn: &Turn,
+) -> Result<(), Memory>
+    requires atoms { AreOf present.old (atoms_of turn.now) }
+    requires lists { length occurrences.now ≡ length present.old }
+    requires there { place < length woken.old }
+    requires places { ArePlaces (length woken.old) occurrences.now }
     ensures counts { (n : ℕ) → HaveCount n (past.old.items ++ present.old ∷ []) → HaveCount n (past.new.items ++ present.new ∷ []) }
     ensures present { OnOk result (present.new ≡ applied present.old turn.now) }
     ensures states { Begins (past.old.items ++ present.old ∷ []) (past.new.items ++ present.new ∷ []) }
+    ensures woken { OnOk result (woken.new ≡ woken_after woken.old occurrences.now place turn.now) }
     ensures past_stays { OnErr result (past.new.items ≡ past.old.items) }
     ensures present_stays { OnErr result (present.new ≡ present.old) }
+    ensures woken_stays { OnErr result (woken.new ≡ woken.old) }
 {
     match turn {
-        Turn::Atom(_, atom) => advance(past, present, &[*atom]),
+        Turn::Atom(_, atom) => {
+            advance(past, present, &[*atom])?;
+            woken.rest(place);
+            woken.wake_each(occurrences.on(atom.var()));
+            Ok(())
+        }
         Turn::Clash(_) | Turn::Quiet | Turn::Empty => Ok(()),
     }
 }

@@ -3,10 +3,13 @@
 
 mod engine;
 mod laws;
+mod occurrences;
 mod part_id;
+mod roster;
 mod search;
 mod states;
 mod turn;
+mod woken;
 
 pub use dp_domain::{Atom, Memory, State, Steps};
 pub use dp_parts::Problem;
