@@ -218,7 +218,7 @@ intervals_of-expand (i ∷ is) p =
 
 -- ---- ends
 
-first_bound : (i : ℤ × ℤ) (is : List (ℤ × ℤ)) → AreApart (i ∷ is) → (v : ℤ) → LiesInOne (i ∷ is) v → i.0 ≤ℤ v
+pub first_bound : (i : ℤ × ℤ) (is : List (ℤ × ℤ)) → AreApart (i ∷ is) → (v : ℤ) → LiesInOne (i ∷ is) v → i.0 ≤ℤ v
 first_bound i is p v (ends, inl e, b) = subst (λ (q : ℤ × ℤ). q.0 ≤ℤ v) e b.0
 first_bound i is p v (ends, inr m, b) =
     let some = p.0 in
@@ -237,11 +237,11 @@ suc_front : (n : ℕ) → suc (suc n - 1) ≡ suc (suc n) - 1
 suc_front n = omega arith
 
 -- the last interval
-record IsLast (is : List (ℤ × ℤ)) (j : ℤ × ℤ) : Type 0 where
-  place : slice_get is (length is - 1) ≡ Some j
-  among : Among j is
-  some : j.0 ≤ℤ j.1
-  bound : (v : ℤ) → LiesInOne is v → v ≤ℤ j.1
+pub record IsLast (is : List (ℤ × ℤ)) (j : ℤ × ℤ) : Type 0 where
+  pub place : slice_get is (length is - 1) ≡ Some j
+  pub among : Among j is
+  pub some : j.0 ≤ℤ j.1
+  pub bound : (v : ℤ) → LiesInOne is v → v ≤ℤ j.1
 
 bound_one : (i : ℤ × ℤ) (v : ℤ) → LiesInOne (i ∷ []) v → v ≤ℤ i.1
 bound_one i v (ends, inl e, b) = subst (λ (q : ℤ × ℤ). v ≤ℤ q.1) e b.1
@@ -255,7 +255,7 @@ bound_more i j is e l v (ends, inl f, b) =
     omega (arith, ints)
 bound_more i j is e l v (ends, inr m, b) = l.bound v (ends, m, b)
 
-last_of : (i : ℤ × ℤ) (is : List (ℤ × ℤ)) → AreApart (i ∷ is) → (j : ℤ × ℤ) × IsLast (i ∷ is) j
+pub last_of : (i : ℤ × ℤ) (is : List (ℤ × ℤ)) → AreApart (i ∷ is) → (j : ℤ × ℤ) × IsLast (i ∷ is) j
 last_of i [] p = (i, record { place = refl; among = inl refl; some = p.0; bound = bound_one i })
 last_of i (k ∷ ks) p =
     let r = last_of k ks p.2 in (

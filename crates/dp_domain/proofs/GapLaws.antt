@@ -21,14 +21,14 @@ use Rattle.dp_domain.proofs.SetLaws.{greatest-among, greatest-bound, least-among
 -- ---- what lies in a gap
 
 -- the intervals begin from the number on
-abbrev AreFrom : ℤ → List (ℤ × ℤ) → Type 0
+abbrev pub AreFrom : ℤ → List (ℤ × ℤ) → Type 0
 AreFrom next is = Each (λ j. next ≤ℤ j.0) is
 
 -- the number lies in a gap: from the number `next` on, in no interval, and before the begin of one
-record LiesInGap (next : ℤ) (is : List (ℤ × ℤ)) (v : ℤ) : Type 0 where
-  low : next ≤ℤ v
-  none : LiesInOne is v → ⊥
-  before : (j : ℤ × ℤ) × Among j is × (v <ℤ j.0)
+pub record LiesInGap (next : ℤ) (is : List (ℤ × ℤ)) (v : ℤ) : Type 0 where
+  pub low : next ≤ℤ v
+  pub none : LiesInOne is v → ⊥
+  pub before : (j : ℤ × ℤ) × Among j is × (v <ℤ j.0)
 
 rest_from : (i : ℤ × ℤ) (is : List (ℤ × ℤ)) → Each (λ j. (i.1 +ℤ pos 1) <ℤ j.0) is → AreFrom (i.1 +ℤ pos 1) is
 rest_from i is e = Each-weaker (λ (j : ℤ × ℤ). (i.1 +ℤ pos 1) <ℤ j.0) (λ (j : ℤ × ℤ). (i.1 +ℤ pos 1) ≤ℤ j.0) (λ j h. omega (arith, ints)) is e
@@ -51,7 +51,8 @@ first_up n a b v h g f = omega (arith, ints)
 less_by : (v x : ℤ) → v ≤ℤ (x -ℤ pos 1) → v <ℤ x
 less_by v x h = omega (arith, ints)
 
-gaps_only : (next : ℤ) (is : List (ℤ × ℤ)) (v : ℤ) → AreApart is → AreFrom next is → LiesInOne (gaps_from next is) v → LiesInGap next is v
+-- a number of the gaps lies in one
+pub gaps_only : (next : ℤ) (is : List (ℤ × ℤ)) (v : ℤ) → AreApart is → AreFrom next is → LiesInOne (gaps_from next is) v → LiesInGap next is v
 gaps_only next [] v a f r = absurd r.1
 gaps_only next (i ∷ is) v a f r = elim (lies_cases (interval next (i.0 -ℤ pos 1)) (gaps_from (i.1 +ℤ pos 1) is) v r) [
   | inl h ↦
@@ -72,7 +73,8 @@ not_first : (i : ℤ × ℤ) (is : List (ℤ × ℤ)) (v : ℤ) (j : ℤ × ℤ)
 not_first i is v j h (inl e) l = let k : v <ℤ i.0 = subst (λ (q : ℤ × ℤ). v <ℤ q.0) e l in absurd (omega (arith, ints))
 not_first i is v j h (inr m) l = m
 
-gaps_all : (next : ℤ) (is : List (ℤ × ℤ)) (v : ℤ) (j : ℤ × ℤ) → next ≤ℤ v → (LiesInOne is v → ⊥) → Among j is → v <ℤ j.0 → LiesInOne (gaps_from next is) v
+-- a number that lies in no interval, and before one, is in the gaps
+pub gaps_all : (next : ℤ) (is : List (ℤ × ℤ)) (v : ℤ) (j : ℤ × ℤ) → next ≤ℤ v → (LiesInOne is v → ⊥) → Among j is → v <ℤ j.0 → LiesInOne (gaps_from next is) v
 gaps_all next [] v j low none m l = absurd m
 gaps_all next (i ∷ is) v j low none m l =
     by (int_le i.0 v) (int_le v i.1) refl refl (λ h k. gaps_all (i.1 +ℤ pos 1) is v j h (λ r. none (r.0, inr r.1, r.2)) (not_first i is v j k m l) l)
@@ -223,14 +225,15 @@ overlap_cut i = record {
       interval-all (int_max i.0 j.0) (int_min i.1 j.1) v (over_both v i.0 j.0 (le-from_test i.0 v s.0) b.0, under_both v i.1 j.1 (le-from_test v i.1 s.1) b.1);
 }
 
-common_cut : (is gaps : List (ℤ × ℤ)) → AreApart gaps → AreHoles is gaps → IsCut (λ i. flat_map (overlap i) gaps) (is_hole (expand is))
-common_cut is gaps a h = record {
+-- what an interval has in common with others, where just the numbers of these pass the test
+pub common_cut : (p : ℤ → Bool) (gaps : List (ℤ × ℤ)) → AreApart gaps → ((v : ℤ) → LiesInOne gaps v → p v ≡ true) → ((v : ℤ) → p v ≡ true → LiesInOne gaps v) → IsCut (λ i. flat_map (overlap i) gaps) p
+common_cut p gaps a some all = record {
   apart = λ i n. cut-apart (overlap i) (λ v. int_le i.0 v && int_le v i.1) (overlap_cut i) gaps a;
   only = λ i v r.
       let s = cut-only (overlap i) (λ v. int_le i.0 v && int_le v i.1) (overlap_cut i) gaps v r in
       let t = and_parts (int_le i.0 v) (int_le v i.1) s.1 in
-      ((le-from_test i.0 v t.0, le-from_test v i.1 t.1), h.only v s.0);
-  all = λ i v b t. cut-all (overlap i) (λ v. int_le i.0 v && int_le v i.1) (overlap_cut i) gaps v (h.all v t) (and_from (int_le i.0 v) (int_le v i.1) (test-from_le i.0 v b.0) (test-from_le v i.1 b.1));
+      ((le-from_test i.0 v t.0, le-from_test v i.1 t.1), some v s.0);
+  all = λ i v b t. cut-all (overlap i) (λ v. int_le i.0 v && int_le v i.1) (overlap_cut i) gaps v (all v t) (and_from (int_le i.0 v) (int_le v i.1) (test-from_le i.0 v b.0) (test-from_le v i.1 b.1));
 }
 
 holes_of : (is : List (ℤ × ℤ)) (o : Option ℤ) (start : ℤ) (gaps : List (ℤ × ℤ)) → AreApart is → o ≡ least (expand is) → start ≡ unwrap_or o (pos 0) → gaps ≡ gaps_from start is → AreHoles is gaps
@@ -245,7 +248,8 @@ pub record HoldsHoles (is js ks : List (ℤ × ℤ)) : Type 0 where
 -- what others have in common with the gaps of a set are its holes among their numbers
 pub holes_hold : (is js ks gaps : List (ℤ × ℤ)) (o : Option ℤ) (start : ℤ) → AreMaximal js → AreApart is → o ≡ least (expand is) → start ≡ unwrap_or o (pos 0) → gaps ≡ gaps_from start is → ks ≡ common js gaps → HoldsHoles is js ks
 holes_hold is js ks gaps o start m a e f g h =
-    let cut = common_cut is gaps (gaps-apart start is gaps a g) (holes_of is o start gaps a e f g) in
+    let k = holes_of is o start gaps a e f g in
+    let cut = common_cut (is_hole (expand is)) gaps (gaps-apart start is gaps a g) k.only k.all in
     record {
       maximal = subst AreMaximal (sym h) (cut-maximal (λ i. flat_map (overlap i) gaps) (is_hole (expand is)) cut js m);
       numbers = ap expand h ∙ cut-expand (λ i. flat_map (overlap i) gaps) (is_hole (expand is)) cut js m.apart;

@@ -18,3 +18,6 @@ pub mod TurnLaws
 pub mod TurnSteps
 pub mod TermLaws
 pub mod TestLaws
+pub mod SeekLaws
+pub mod OutsideLaws
+pub mod SupportLaws

@@ -8,11 +8,12 @@ use Rattle.dp_base.proofs.Lists.{Each-among, Among-filter_only, Among-filter_all
 use Rattle.dp_domain.specs.Atoms.{Atomic, meets, negated}
 use Rattle.dp_domain.specs.declared.atom.Op.{Op}
 use Rattle.dp_domain.specs.declared.atom.Op.TheVariants.{Ge, Le, Eq, Ne}
+use Rattle.dp_domain.specs.declared.found.Found.{Found}
 use Rattle.dp_domain.specs.declared.found.Found.TheVariants.{Clash, Atom}
 use Rattle.dp_domain.specs.Sets.{least, greatest, least_from, greatest_from}
 use Rattle.dp_domain.specs.States.{Domains, cut, entails, is_dead, values}
 use Rattle.dp_domain.specs.Faces.{Face}
-use Rattle.dp_domain.specs.Turns.{at_least, at_most, other_than, gives, or_else, given_on, given, turn_of, is_permitted, IsCandidate, Precedes, IsTurn}
+use Rattle.dp_domain.specs.Turns.{at_least, at_most, other_than, gives, or_else, given_on, given, turn_of, is_permitted, IsCandidate, Precedes, IsFirst, IsTurn}
 use Rattle.dp_domain.proofs.AtomLaws.{le-from_test, lt-from_test, test-from_le, test-from_lt, same-from_tests}
 use Rattle.dp_domain.proofs.SetLaws.{least_from-bound, least_from-among, greatest_from-bound, greatest_from-among}
 use Rattle.dp_domain.proofs.StateLaws.{entails-fails, entails-from, entails-not, entails-from_dead_cut, cut-entailed}
@@ -262,3 +263,54 @@ is_turn f d false (Some a) l e h = let q = h e in (
 -- the turn of a part is its turn in words of all integers
 pub turn_of-is : (f : Face) (d : Domains) → Climbs f.scope → is_dead d ≡ false → IsTurn f d (turn_of f d)
 turn_of-is f d c l = is_turn f d (f.test d) (given f d f.scope) l refl (λ n. given-first f d f.scope n c (λ x h. h))
+
+-- ---- no other turn
+
+abbrev atom_of : ℕ → Op → ℤ → Atomic
+atom_of x o v = record { var = x; op = o; value = v }
+
+same_atom : (x y : ℕ) (o : Op) (v w : ℤ) → x ≡ y → v ≡ w → atom_of x o v ≡ atom_of y o w
+same_atom x y o v w e f = cc
+
+both_first : (v w : ℤ) → v ≤ℤ w → w ≤ℤ v → v ≡ w
+both_first v w h g = omega (arith, ints)
+
+-- two atoms of one variable of which each comes before the other, or is it, are one atom
+first_of_both : (x y : ℕ) (o p : Op) (v w : ℤ) → x ≡ y → Precedes o v p w → Precedes p w o v → atom_of x o v ≡ atom_of y p w
+first_of_both x y Ge Ge v w e h g = same_atom x y Ge v w e (both_first v w g h)
+first_of_both x y Ge Le v w e h g = absurd g
+first_of_both x y Ge Eq v w e h g = absurd g
+first_of_both x y Ge Ne v w e h g = absurd g
+first_of_both x y Le Ge v w e h g = absurd h
+first_of_both x y Le Le v w e h g = same_atom x y Le v w e (both_first v w h g)
+first_of_both x y Le Eq v w e h g = absurd g
+first_of_both x y Le Ne v w e h g = absurd g
+first_of_both x y Eq p v w e h g = absurd h
+first_of_both x y Ne Ge v w e h g = absurd h
+first_of_both x y Ne Le v w e h g = absurd h
+first_of_both x y Ne Eq v w e h g = absurd g
+first_of_both x y Ne Ne v w e h g = same_atom x y Ne v w e (both_first v w h g)
+
+-- a part has one first candidate
+first-only : (f : Face) (d : Domains) (a b : Atomic) → IsFirst f d a → IsFirst f d b → a ≡ b
+first-only f d a b h k =
+    let e : a.var ≡ b.var = both_ways_le a.var b.var (h.variable b k.candidate) (k.variable a h.candidate) in
+    first_of_both a.var b.var a.op b.op a.value b.value e (h.preferred b k.candidate (sym e)) (k.preferred a h.candidate e)
+  where
+    both_ways_le : (x y : ℕ) → x ≤ y → y ≤ x → x ≡ y
+    both_ways_le x y h g = omega arith
+
+turns_same : (f : Face) (d : Domains) (r q : Option Found) → IsTurn f d r → IsTurn f d q → r ≡ q
+turns_same f d None None h k = refl
+turns_same f d None (Some Clash) h k = absurd (both_ways (f.test d) h.0 k)
+turns_same f d None (Some (Atom b)) h k = absurd (h.1 b k.1.candidate)
+turns_same f d (Some Clash) None h k = absurd (both_ways (f.test d) k.0 h)
+turns_same f d (Some Clash) (Some Clash) h k = refl
+turns_same f d (Some Clash) (Some (Atom b)) h k = absurd (both_ways (f.test d) k.0 h)
+turns_same f d (Some (Atom a)) None h k = absurd (k.1 a h.1.candidate)
+turns_same f d (Some (Atom a)) (Some Clash) h k = absurd (both_ways (f.test d) h.0 k)
+turns_same f d (Some (Atom a)) (Some (Atom b)) h k = ap (λ (c : Atomic). Some (Atom c)) (first-only f d a b h.1 k.1)
+
+-- what is the turn in words of all integers is the turn
+pub turn-only : (f : Face) (d : Domains) → Climbs f.scope → is_dead d ≡ false → (r : Option Found) → IsTurn f d r → r ≡ turn_of f d
+turn-only f d c l r h = turns_same f d r (turn_of f d) h (turn_of-is f d c l)

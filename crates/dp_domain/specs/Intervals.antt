@@ -1,5 +1,5 @@
 -- Steps on intervals: what an atom keeps of them, what they have in common, the gaps between them, their union.
-use Rattle.std.specs.Prelude.{ℕ, Bool, ◌&&◌, ◌==◌, ◌⊎◌, if◌then◌else◌, List, [], ◌∷◌, ◌++◌, ℤ, pos, ◌+ℤ◌, ◌-ℤ◌, ◌≤ℤ◌, int_le}
+use Rattle.std.specs.Prelude.{ℕ, ◌^◌, Bool, ◌&&◌, ◌==◌, ◌⊎◌, if◌then◌else◌, List, [], ◌∷◌, ◌++◌, ℤ, pos, neg_ℤ, ◌+ℤ◌, ◌-ℤ◌, ◌≤ℤ◌, int_le}
 use Rattle.std.specs.Int.{int_max, int_min}
 use Rattle.std.specs.List.{flat_map}
 use Rattle.dp_base.specs.Lists.{Each}
@@ -51,6 +51,19 @@ common is js = flat_map (λ i. flat_map (overlap i) js) is
 abbrev pub gaps_from : ℤ → List (ℤ × ℤ) → List (ℤ × ℤ)
 gaps_from next [] = []
 gaps_from next (i ∷ is) = interval next (i.0 -ℤ pos 1) ++ gaps_from (i.1 +ℤ pos 1) is
+
+-- the least number that sets have
+abbrev pub lowest : ℤ
+lowest = neg_ℤ (pos (10 ^ 9))
+
+-- the number after the last of the intervals; the number `next` where there is none
+abbrev pub behind : ℤ → List (ℤ × ℤ) → ℤ
+behind next [] = next
+behind next (i ∷ is) = behind (i.1 +ℤ pos 1) is
+
+-- what lies in none of the intervals, from the least number that sets have to beyond the greatest
+abbrev pub outside : List (ℤ × ℤ) → List (ℤ × ℤ)
+outside is = gaps_from lowest is ++ interval (behind lowest is) (pos (10 ^ 9) +ℤ pos 1)
 
 -- the intervals have the numbers of the others, and no more
 pub record HaveSame (is js : List (ℤ × ℤ)) : Type 0 where

@@ -6,4 +6,5 @@ pub mod Faces
 pub mod Conditions
 pub mod Turns
 pub mod Explanations
+pub mod Supports
 pub mod Terms

@@ -6,10 +6,12 @@ ghost use Rattle.std.specs.Option.{option_map_or};
 ghost use Rattle.dp_base.specs.Lists.{Among, Each};
 ghost use Rattle.dp_domain.specs.Atoms.{meets};
 ghost use Rattle.dp_domain.specs.Explanations.{is_hole};
-ghost use Rattle.dp_domain.specs.Sets.{AreApart, Collects, IsDomain, IsSmall, LiesBetween, LiesInOne, greatest, intervals_of, least, share};
+ghost use Rattle.dp_domain.specs.Sets.{AreApart, Collects, IsDomain, IsSmall, LiesBetween, LiesInOne, greatest, intervals_of, is_among, least, share};
 ghost use Rattle.dp_domain.specs.States.{fails_one, is_nil};
 
-use crate::intervals::{common, failing, gaps_from, merged, met, numbers, reach, share, single};
+use crate::intervals::{
+    common, failing, from, gaps_from, merged, met, numbers, outside, reach, share, single, up_to,
+};
 use crate::{Atom, Memory, Op, VarId};
 use std::alloc::Global;
 use std::marker::Model;
@@ -90,6 +92,22 @@ impl Dom {
         Some(*last)
     }
 
+    /// The least number that is this value or more; None exactly where there is none.
+    pub fn least_from(&self, value: i64) -> Option<i64>
+        ensures { result ≡ least (filter (int_le value) self.now) }
+    {
+        let (first, _) = from(self.intervals.as_slice(), value).first()?;
+        Some((*first).max(value))
+    }
+
+    /// The greatest number that is this value or less; None exactly where there is none.
+    pub fn greatest_to(&self, value: i64) -> Option<i64>
+        ensures { result ≡ greatest (filter (λ v. int_le v value) self.now) }
+    {
+        let (_, last) = up_to(self.intervals.as_slice(), value).last()?;
+        Some((*last).min(value))
+    }
+
     /// Its numbers in ascending order.
     pub(crate) fn values(&self) -> Result<Vec<i64>, Memory>
         ensures values { IfOk result (λ values. values.items ≡ self.now) }
@@ -156,6 +174,27 @@ impl Dom {
         let start = self.lower().unwrap_or(0);
         let gaps = gaps_from(alloc, start, self.intervals.as_slice())?;
         let intervals = common(alloc, initial.intervals.as_slice(), gaps.as_slice())?;
+        Ok(Dom { intervals })
+    }
+
+    /// Its numbers that are also in the other set.
+    pub fn common(&self, other: &Dom) -> Result<Dom, Memory>
+        ensures numbers { IfOk result (λ d. d ≡ filter (λ v. is_among v other.now) self.now) }
+        ensures domain { IfOk result IsDomain }
+    {
+        let alloc = *self.intervals.allocator();
+        let intervals = common(alloc, self.intervals.as_slice(), other.intervals.as_slice())?;
+        Ok(Dom { intervals })
+    }
+
+    /// Its numbers that are not in the other set.
+    pub fn without(&self, other: &Dom) -> Result<Dom, Memory>
+        ensures numbers { IfOk result (λ d. d ≡ filter (λ v. not (is_among v other.now)) self.now) }
+        ensures domain { IfOk result IsDomain }
+    {
+        let alloc = *self.intervals.allocator();
+        let outside = outside(alloc, other.intervals.as_slice())?;
+        let intervals = common(alloc, self.intervals.as_slice(), outside.as_slice())?;
         Ok(Dom { intervals })
     }
 

@@ -4,7 +4,7 @@ ghost use Rattle.std.specs.Prelude.{◌≡◌, ◌++◌, ◌-ℤ◌, int_le, pos
 ghost use Rattle.std.specs.List.{flat_map, list_any};
 ghost use Rattle.dp_base.specs.Lists.{Each};
 ghost use Rattle.dp_domain.specs.Atoms.{IsNameable};
-ghost use Rattle.dp_domain.specs.Intervals.{AreBegun, HaveSame, Joins, after, before, common, failing_on, gaps_from, interval, met, met_of, overlap, reaches};
+ghost use Rattle.dp_domain.specs.Intervals.{AreBegun, HaveSame, Joins, after, before, behind, common, failing_on, gaps_from, interval, lowest, met, met_of, outside, overlap, reaches};
 ghost use Rattle.dp_domain.specs.Sets.{AreApart, AreMaximal, HasSmallEnds, IsSmall, expand, numbers_between};
 
 use crate::{Atom, Memory, Op, VarId};
@@ -150,7 +150,7 @@ fn near(intervals: &[(i64, i64)], interval: (i64, i64)) -> &[(i64, i64)]
 }
 
 /// The intervals that do not end before the number.
-fn from(intervals: &[(i64, i64)], first: i64) -> &[(i64, i64)]
+pub(crate) fn from(intervals: &[(i64, i64)], first: i64) -> &[(i64, i64)]
     requires { AreApart intervals.now }
     ensures { result.now ≡ filter (λ i. int_le first i.1) intervals.now }
 {
@@ -159,7 +159,7 @@ fn from(intervals: &[(i64, i64)], first: i64) -> &[(i64, i64)]
 }
 
 /// The intervals that do not begin after the number.
-fn up_to(intervals: &[(i64, i64)], last: i64) -> &[(i64, i64)]
+pub(crate) fn up_to(intervals: &[(i64, i64)], last: i64) -> &[(i64, i64)]
     requires { AreApart intervals.now }
     ensures { result.now ≡ filter (λ i. int_le i.0 last) intervals.now }
 {
@@ -244,6 +244,31 @@ fn push_gap(gaps: &mut Vec<(i64, i64)>, first: i64, end: i64) -> Result<(), Memo
     ensures { OnOk result (gaps.new.items ≡ gaps.old.items ++ interval first (end -ℤ pos 1)) }
 {
     push_interval(gaps, first, end - 1)
+}
+
+const LOWEST: i64 = -1_000_000_000;
+
+const BEYOND: i64 = 1_000_000_001;
+
+/// What lies in none of the intervals, from the least number that sets have to beyond the greatest.
+pub(crate) fn outside(alloc: Global, intervals: &[(i64, i64)]) -> Result<Vec<(i64, i64)>, Memory>
+    requires { Each HasSmallEnds intervals.now }
+    ensures { IfOk result (λ gaps. gaps.items ≡ outside intervals.now) }
+{
+    let mut gaps = gaps_from(alloc, LOWEST, intervals)?;
+    push_interval(&mut gaps, behind(intervals), BEYOND)?;
+    Ok(gaps)
+}
+
+/// The number after the last interval.
+fn behind(intervals: &[(i64, i64)]) -> i64
+    requires { Each HasSmallEnds intervals.now }
+    ensures { result ≡ behind lowest intervals.now }
+{
+    match intervals.last() {
+        Some((_, last)) => *last + 1,
+        None => LOWEST,
+    }
 }
 
 /// The maximal intervals of the numbers of these intervals.

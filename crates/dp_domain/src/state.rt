@@ -1,6 +1,6 @@
 // States: what each variable may still be.
 
-ghost use Rattle.std.specs.Prelude.{◌≡◌, ℕ, ◌^◌, ◌<◌, ◌↔◌, false, not, length, IfOk, OnOk, OnErr, IsTrue};
+ghost use Rattle.std.specs.Prelude.{◌≡◌, ℕ, ◌^◌, ◌<◌, ◌↔◌, false, not, length, slice_set, IfOk, OnOk, OnErr, IsTrue};
 ghost use Rattle.dp_base.specs.Lists.{Among};
 ghost use Rattle.dp_domain.specs.Sets.{IsDomain, greatest, least};
 ghost use Rattle.dp_domain.specs.States.{cut, entails, is_dead, refuted, values, IsWithin};
@@ -11,6 +11,7 @@ use crate::description::describe;
 use crate::{Atom, Dom, Memory, VarId};
 use std::alloc::Global;
 use std::marker::Model;
+use std::mem;
 
 /// A set of values for each variable, seen as the list of these sets.
 #[derive(Debug, Drop)]
@@ -123,6 +124,15 @@ impl State {
     {
         let set = &mut self.sets[var.0 as usize];
         set.refute(var, atoms)
+    }
+
+    /// Puts another set in the place of the variable's, and hands over that one.
+    pub fn replace(&mut self, var: VarId, set: Dom) -> Dom
+        requires { var < length self.old }
+        ensures state { self.new ≡ slice_set self.old var set }
+        ensures set { result ≡ values self.old var }
+    {
+        mem::replace(&mut self.sets[var.0 as usize], set)
     }
 
     /// What the state says of the variables beyond the initial state: for each in order, its lower bound

@@ -190,6 +190,104 @@ fn numbers_that_two_sets_share(rt: HostRuntime) -> Result<(), Fail> {
 }
 
 #[test]
+fn nearest_numbers(rt: HostRuntime) -> Result<(), Fail> {
+    let alloc = rt.alloc();
+    let two = set_of(alloc, [(1, 3), (7, 9), NONE])?;
+    for (value, from, to) in [
+        (i64::MIN, Some(1), None),
+        (0, Some(1), None),
+        (1, Some(1), Some(1)),
+        (2, Some(2), Some(2)),
+        (3, Some(3), Some(3)),
+        (4, Some(7), Some(3)),
+        (6, Some(7), Some(3)),
+        (7, Some(7), Some(7)),
+        (8, Some(8), Some(8)),
+        (9, Some(9), Some(9)),
+        (10, None, Some(9)),
+        (i64::MAX, None, Some(9)),
+    ] {
+        assert_eq!(rt; two.least_from(value), from, "from {value}");
+        assert_eq!(rt; two.greatest_to(value), to, "to {value}");
+    }
+    let none = set_of(alloc, [NONE, NONE, NONE])?;
+    assert_eq!(rt; none.least_from(0), None);
+    assert_eq!(rt; none.greatest_to(0), None);
+    Ok(())
+}
+
+#[test]
+fn numbers_in_both_sets_and_in_the_first_alone(rt: HostRuntime) -> Result<(), Fail> {
+    let alloc = rt.alloc();
+    let wide = [(-WIDE, WIDE), NONE, NONE];
+    let two = [(1, 3), (7, 9), NONE];
+    let none = [NONE, NONE, NONE];
+    for (one, other, both, first) in [
+        (
+            two,
+            [(2, 7), NONE, NONE],
+            [(2, 3), (7, 7)].as_slice(),
+            [(1, 1), (8, 9)].as_slice(),
+        ),
+        (
+            two,
+            [(2, 2), (8, 8), NONE],
+            [(2, 2), (8, 8)].as_slice(),
+            [(1, 1), (3, 3), (7, 7), (9, 9)].as_slice(),
+        ),
+        (
+            two,
+            [(4, 6), (10, 12), NONE],
+            [].as_slice(),
+            [(1, 3), (7, 9)].as_slice(),
+        ),
+        (two, none, [].as_slice(), [(1, 3), (7, 9)].as_slice()),
+        (none, two, [].as_slice(), [].as_slice()),
+        (two, wide, [(1, 3), (7, 9)].as_slice(), [].as_slice()),
+        (
+            wide,
+            two,
+            [(1, 3), (7, 9)].as_slice(),
+            [(-WIDE, 0), (4, 6), (10, WIDE)].as_slice(),
+        ),
+        (
+            wide,
+            [(-WIDE, -WIDE), (WIDE, WIDE), NONE],
+            [(-WIDE, -WIDE), (WIDE, WIDE)].as_slice(),
+            [(-WIDE + 1, WIDE - 1)].as_slice(),
+        ),
+    ] {
+        let set = set_of(alloc, one)?;
+        let others = set_of(alloc, other)?;
+        let common = set.common(&others)?.intervals(alloc)?;
+        assert_eq!(rt; common.as_slice(), both);
+        let without = set.without(&others)?.intervals(alloc)?;
+        assert_eq!(rt; without.as_slice(), first);
+    }
+    Ok(())
+}
+
+#[test]
+fn bounds_of_supported_values(rt: HostRuntime) -> Result<(), Fail> {
+    let alloc = rt.alloc();
+    let x = VarId(4);
+    let two = [(1, 3), (7, 9), NONE];
+    for (good, bound) in [
+        (two, None),
+        ([(1, 1), (9, 9), NONE], None),
+        ([(2, 3), (9, 9), NONE], Atom::new(x, Op::Ge, 2)),
+        ([(1, 3), (7, 7), NONE], Atom::new(x, Op::Le, 7)),
+        ([(7, 8), NONE, NONE], Atom::new(x, Op::Ge, 7)),
+        ([NONE, NONE, NONE], None),
+    ] {
+        let set = set_of(alloc, two)?;
+        let supported = set_of(alloc, good)?;
+        assert_eq!(rt; supported_bound(x, &set, &supported), bound);
+    }
+    Ok(())
+}
+
+#[test]
 fn refuted_numbers(rt: HostRuntime) -> Result<(), Fail> {
     let alloc = rt.alloc();
     let wide = [(-WIDE, WIDE), NONE, NONE];
@@ -300,6 +398,21 @@ fn a_copy_goes_its_own_way(rt: HostRuntime) -> Result<(), Fail> {
     }
     assert_eq!(rt; copy.lower(x), Some(7));
     assert_eq!(rt; state.lower(x), Some(1));
+    Ok(())
+}
+
+#[test]
+fn a_set_in_the_place_of_another(rt: HostRuntime) -> Result<(), Fail> {
+    let alloc = rt.alloc();
+    let mut state = with_a_hole(alloc)?;
+    let x = VarId(0);
+    let old = state.replace(x, Dom::range(alloc, 4, 5)?);
+    assert_eq!(rt;
+        old.intervals(alloc)?.as_slice(),
+        [(1, 3), (7, 8)].as_slice()
+    );
+    assert_eq!(rt; state.lower(x), Some(4));
+    assert_eq!(rt; state.upper(x), Some(5));
     Ok(())
 }
 
