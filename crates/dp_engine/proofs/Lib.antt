@@ -6,6 +6,7 @@ pub mod SearchSteps
 pub mod StateSteps
 pub mod EngineSteps
 pub mod TestProblem
+pub mod TrailLaws
 pub mod LocalLaws
 pub mod WokenLaws
 pub mod RosterLaws

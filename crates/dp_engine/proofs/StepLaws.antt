@@ -1,9 +1,8 @@
 -- Steps of the engine over woken parts: what a search finds, and what is kept and counted after a turn.
-use Rattle.std.proofs.Common.{◌≡◌, ℕ, zero, suc, ◌+◌, ◌-◌, ◌<◌, ◌≤◌, Bool, true, false, cond, ◌⊎◌, List, [], ◌∷◌, ◌++◌, length, get_or, set, take, drop, Option, Some, None, option_map, Result, Ok, Err, OnOk, slice_get, refl, sym, ◌∙◌, ap, subst, inl, inr, arith}
+use Rattle.std.proofs.Common.{◌≡◌, ℕ, zero, suc, ◌+◌, ◌-◌, ◌<◌, ◌≤◌, Bool, true, false, cond, ◌⊎◌, List, [], ◌∷◌, ◌++◌, length, get_or, set, take, Option, Some, None, option_map, Result, Ok, Err, OnOk, slice_get, refl, sym, ◌∙◌, ap, subst, inl, inr, arith}
 use Rattle.std.specs.Result.{MatchResult, IsErrAnd, is_err}
 use Rattle.std.proofs.lemmas.Bool.{cases_Bool, false≢true, both_ways}
 use Rattle.std.proofs.lemmas.List.{get_or-set_same, length-set}
-use Rattle.std.proofs.lemmas.List.{drop_more}
 use Rattle.std.proofs.lemmas.Option.{slice_get_within}
 use Rattle.std.proofs.lemmas.Result.{err_from_is_err_and}
 use Rattle.dp_base.specs.Lists.{Among, Each}
@@ -18,7 +17,7 @@ use Rattle.dp_engine.specs.declared.turn.Turn.{Turn}
 use Rattle.dp_engine.specs.declared.turn.Turn.TheVariants.{Atom, Clash, Quiet, Empty}
 use Rattle.dp_engine.specs.Placed.{AreSound, IsSound, Placed}
 use Rattle.dp_engine.specs.Turns.{applied, atoms_of, first, told, told_or_quiet, turn_at}
-use Rattle.dp_engine.specs.Woken.{ArePlaces, IsCounted, IsFirstWoken, IsFound, IsIndex, IsSearched, Rest, entered, owed_of, places_on, touch, with_touched, with_woken, woken_after}
+use Rattle.dp_engine.specs.Woken.{ArePlaces, IsCounted, IsFirstWoken, IsFound, IsIndex, IsSearched, Rest, entered, owed_of, places_on, touch, with_woken, woken_after}
 use Rattle.dp_engine.proofs.SearchSteps.{Each-at}
 use Rattle.dp_engine.proofs.TurnLaws.{sound-turn, taking}
 use Rattle.dp_engine.proofs.WokenLaws.{entered-length, index-push, length-places_on, owed-rest, places_on-below, rest-turn, with_woken-length, with_woken-owed}
@@ -236,16 +235,18 @@ owed-few ws parts e = let h = (length-filter_cases (λ (w : Bool). w) ws).0 in o
 -- ---- the clause of the count, at each end of a step
 
 -- what a search found, among the parts in order
-pub found-facts : (listed parts : List Placed) (d : Domains) (ws : List Bool) (before now : ℕ) (o : Option (ℕ × Turn)) (place : ℕ) (t : Turn) → listed ≡ parts → o ≡ Some (place, t)
-    → IsSearched listed d ws before now o → (now ≤ before + 1) × IsFound parts d ws place t
-found-facts listed parts d ws before now o place t e f h =
-    subst (λ (ps : List Placed). (now ≤ before + 1) × IsFound ps d ws place t) e (subst (IsSearched listed d ws before now) f h)
+pub found-facts : (listed parts : List Placed) (b d : Domains) (ws : List Bool) (before now : ℕ) (o : Option (ℕ × Turn)) (place : ℕ) (t : Turn) → listed ≡ parts → b ≡ d → o ≡ Some (place, t)
+    → IsSearched listed b ws before now o → (now ≤ before + 1) × IsFound parts d ws place t
+found-facts listed parts b d ws before now o place t e g f h =
+    subst (λ (ps : List Placed). (now ≤ before + 1) × IsFound ps d ws place t) e
+    (subst (λ (c : Domains). (now ≤ before + 1) × IsFound listed c ws place t) g (subst (IsSearched listed b ws before now) f h))
 
 -- where it found nothing
-pub quiet-facts : (listed parts : List Placed) (d : Domains) (ws : List Bool) (before now : ℕ) (o : Option (ℕ × Turn)) → listed ≡ parts → o ≡ None
-    → IsSearched listed d ws before now o → (now ≤ before) × (Quiet ≡ turn_at parts d)
-quiet-facts listed parts d ws before now o e f h =
-    subst (λ (ps : List Placed). (now ≤ before) × (Quiet ≡ turn_at ps d)) e (subst (IsSearched listed d ws before now) f h)
+pub quiet-facts : (listed parts : List Placed) (b d : Domains) (ws : List Bool) (before now : ℕ) (o : Option (ℕ × Turn)) → listed ≡ parts → b ≡ d → o ≡ None
+    → IsSearched listed b ws before now o → (now ≤ before) × (Quiet ≡ turn_at parts d)
+quiet-facts listed parts b d ws before now o e g f h =
+    subst (λ (ps : List Placed). (now ≤ before) × (Quiet ≡ turn_at ps d)) e
+    (subst (λ (c : Domains). (now ≤ before) × (Quiet ≡ turn_at listed c)) g (subst (IsSearched listed b ws before now) f h))
 
 -- after a turn
 pub counted-step : (n : ℕ) (parts : List Placed) (lists : List (List ℕ)) (ws vs : List Bool) (d : Domains) (place : ℕ) (t : Turn) (before old now : ℕ) → IsIndex n parts lists
@@ -266,12 +267,3 @@ counted-err Q r parts before old now owed is more h =
     let p = err_from_is_err_and {Q = Q} r is in
     let sum : (now - old) + owed ≤ before + 1 = omega arith in
     (now - old, omega arith, subst (λ q. MatchResult q (IsCounted parts before (now - old) owed) (λ e. (now - old) + owed ≤ before + 1)) (sym p.1) sum)
-
--- ---- waking the parts on each atom's variable
-
--- the parts on one atom more
-pub touch-step : (ws now : List Bool) (lists : List (List ℕ)) (atoms : List Atomic) (i : ℕ) (a : Atomic) → i < length atoms → a ≡ get_or atoms i a → now ≡ with_woken ws (get_or lists a.var [])
-    → with_touched now lists (drop (i + 1) atoms) ≡ with_touched ws lists (drop i atoms)
-touch-step ws now lists atoms i a l e n =
-    ap (λ vs. with_touched vs lists (drop (i + 1) atoms)) n
-    ∙ sym (ap (with_touched ws lists) (drop_more atoms i a l ∙ ap (λ (b : Atomic). b ∷ drop (i + 1) atoms) (sym e)))

@@ -11,7 +11,7 @@ use Rattle.dp_domain.specs.States.{Domains, cut, cut_all, is_dead, values}
 use Rattle.dp_domain.specs.Turns.{turn_of}
 use Rattle.dp_domain.proofs.StateLaws.{length-cut, length-cut_all, values-cut_other}
 use Rattle.dp_engine.specs.Placed.{AreSound, IsSound, Placed}
-use Rattle.dp_engine.specs.Woken.{IsIndex, Rest, entered, is_of, owed_of, places_on, touch, with_touched, with_woken}
+use Rattle.dp_engine.specs.Woken.{IsFollowed, IsIndex, Rest, entered, is_of, owed_of, places_on, touch, with_woken}
 use Rattle.dp_engine.proofs.LocalLaws.{Alike, turn-local}
 use Rattle.dp_engine.proofs.SearchSteps.{Each-at}
 
@@ -163,19 +163,6 @@ pub with_woken-owed : (ws : List Bool) (ks : List ℕ) → owed_of (with_woken w
 with_woken-owed ws [] = omega arith
 with_woken-owed ws (k ∷ ks) = omega (arith, with_woken-owed (set ws k true) ks, owed_set ws k)
 
-pub with_touched-length : (ws : List Bool) (lists : List (List ℕ)) (atoms : List Atomic) → length (with_touched ws lists atoms) ≡ length ws
-with_touched-length ws lists [] = refl
-with_touched-length ws lists (a ∷ atoms) = with_touched-length (with_woken ws (get_or lists a.var [])) lists atoms ∙ with_woken-length ws (get_or lists a.var [])
-
--- who is not woken then was not, and is on none of the atoms' variables
-pub with_touched-not : (ws : List Bool) (lists : List (List ℕ)) (atoms : List Atomic) (j : ℕ) → get_or (with_touched ws lists atoms) j true ≡ false
-    → (get_or ws j true ≡ false) × ((a : Atomic) → Among a atoms → Among j (get_or lists a.var []) → ⊥)
-with_touched-not ws lists [] j e = (e, λ a h m. h)
-with_touched-not ws lists (a ∷ atoms) j e =
-    let r = with_touched-not (with_woken ws (get_or lists a.var [])) lists atoms j e in
-    let s = with_woken-not ws (get_or lists a.var []) j r.0 in
-    (s.0, λ b h m. elim h [ inl p ↦ s.1 (subst (λ (c : Atomic). Among j (get_or lists c.var [])) p m) | inr k ↦ r.1 b k m ])
-
 -- ---- to rest
 
 set_rest : (ws : List Bool) (k j : ℕ) → get_or (set ws k false) j true ≡ false → (j ≡ k) ⊎ (get_or ws j true ≡ false)
@@ -254,16 +241,40 @@ agree_off : (scope : List ℕ) (d : Domains) (atoms : List Atomic) → ((a : Ato
 agree_off scope d atoms off = λ x m. sym (values-cut_all_other d atoms x (λ a k e. both_ways (is_of a.var scope) (off a k) (ap (λ y. is_of y scope) (sym e) ∙ is_of-there x scope m)))
 
 -- the place of a part is among those of each of its variables
+in_index : (n : ℕ) (parts : List Placed) (lists : List (List ℕ)) (k x : ℕ) (q : Placed) → IsIndex n parts lists → x < n → slice_get parts k ≡ Some q → is_of x q.face.scope ≡ true → Among k (get_or lists x [])
+in_index n parts lists k x q index l e t =
+    subst (λ ks. Among k ks) (sym (index.each x l)) (subst (λ j. Among j (places_on x 0 parts)) (sym (from_zero k)) (places_on-there x 0 parts k q e t))
+
 off_index : (n : ℕ) (parts : List Placed) (lists : List (List ℕ)) (k x : ℕ) (q : Placed) → IsIndex n parts lists → x < n → slice_get parts k ≡ Some q → (Among k (get_or lists x []) → ⊥) → is_of x q.face.scope ≡ false
 off_index n parts lists k x q index l e out = false_from_ne_true (is_of x q.face.scope)
-    (λ t. out (subst (λ ks. Among k ks) (sym (index.each x l)) (subst (λ j. Among j (places_on x 0 parts)) (sym (from_zero k)) (places_on-there x 0 parts k q e t))))
+    (λ t. out (in_index n parts lists k x q index l e t))
 
--- after atoms, with the parts on their variables woken too
-pub rest-atoms : (n : ℕ) (parts : List Placed) (lists : List (List ℕ)) (ws : List Bool) (d : Domains) (atoms : List Atomic) → IsIndex n parts lists → Each (λ (a : Atomic). a.var < n) atoms
-    → Rest parts ws d → Rest parts (with_touched ws lists atoms) (cut_all d atoms)
-rest-atoms n parts lists ws d atoms index on r = rest-changed parts ws (with_touched ws lists atoms) d (cut_all d atoms) (length-cut_all d atoms) r (λ k q e w.
-    let t = with_touched-not ws lists atoms k w in
-    (t.0, agree_off q.face.scope d atoms (λ a m. off_index n parts lists k a.var q index (Each-among (λ (b : Atomic). b.var < n) atoms on a m) e (t.1 a m))))
+-- nothing changed
+pub followed-same : (lists : List (List ℕ)) (ws : List Bool) (d : Domains) → IsFollowed lists ws d ws d
+followed-same lists ws d = record { bits = refl; sets = refl; kept = λ k h. h; same = λ k x h m. refl }
+
+pub followed-then : (lists : List (List ℕ)) (us ws vs : List Bool) (c d e : Domains) → IsFollowed lists us c ws d → IsFollowed lists ws d vs e → IsFollowed lists us c vs e
+followed-then lists us ws vs c d e f g = record {
+  bits = g.bits ∙ f.bits;
+  sets = g.sets ∙ f.sets;
+  kept = λ k h. f.kept k (g.kept k h);
+  same = λ k x h m. g.same k x h m ∙ f.same k x (g.kept k h) m;
+}
+
+-- one variable's set is changed and the parts on it are woken
+pub followed-change : (lists : List (List ℕ)) (ws vs : List Bool) (d e : Domains) (x : ℕ) → vs ≡ with_woken ws (get_or lists x []) → length e ≡ length d → ((y : ℕ) → (y ≡ x → ⊥) → values e y ≡ values d y) → IsFollowed lists ws d vs e
+followed-change lists ws vs d e x w l h =
+    subst (λ us. IsFollowed lists ws d us e) (sym w) (record {
+      bits = with_woken-length ws (get_or lists x []);
+      sets = l;
+      kept = λ k r. (with_woken-not ws (get_or lists x []) k r).0;
+      same = λ k y r m. h y (λ i. (with_woken-not ws (get_or lists x []) k r).1 (subst (λ z. Among k (get_or lists z [])) i m));
+    })
+
+-- after changes, with the parts on each variable that was changed woken
+pub rest-followed : (n : ℕ) (parts : List Placed) (lists : List (List ℕ)) (ws vs : List Bool) (d e : Domains) → AreSound n parts → IsIndex n parts lists → IsFollowed lists ws d vs e → Rest parts ws d → Rest parts vs e
+rest-followed n parts lists ws vs d e sound index f r = rest-changed parts ws vs d e f.sets r (λ k q h w.
+    (f.kept k w, λ x m. sym (f.same k x w (in_index n parts lists k x q index (Each-among (λ y. y < n) q.face.scope (Each-at (IsSound n) parts k q sound h).covered x m) h (is_of-there x q.face.scope m)))))
 
 -- after the atom that a part gave, which rests but is on the atom's variable
 pub rest-turn : (n : ℕ) (parts : List Placed) (lists : List (List ℕ)) (ws : List Bool) (d : Domains) (a : Atomic) (place : ℕ) (p : Placed) → IsIndex n parts lists → a.var < n

@@ -1,10 +1,10 @@
 -- Woken parts: what is kept of the others, and how parts are woken.
 use Rattle.std.specs.Prelude.{◌≡◌, ℕ, ◌+◌, ◌<◌, ◌≤◌, Bool, true, false, ◌++◌, List, [], ◌∷◌, length, get_or, slice_get, slice_set, Option, Some, None, if◌then◌else◌, ◌==◌, filter}
 use Rattle.std.specs.List.{list_any}
-use Rattle.dp_base.specs.Lists.{Each}
+use Rattle.dp_base.specs.Lists.{Among, Each}
 use Rattle.dp_domain.specs.Atoms.{Atomic}
 use Rattle.dp_domain.specs.Faces.{AgreesOn}
-use Rattle.dp_domain.specs.States.{Domains, is_dead}
+use Rattle.dp_domain.specs.States.{Domains, is_dead, values}
 use Rattle.dp_domain.specs.Turns.{turn_of}
 use Rattle.dp_engine.specs.declared.turn.Turn.{Turn}
 use Rattle.dp_engine.specs.declared.turn.Turn.TheVariants.{Atom, Clash, Quiet, Empty}
@@ -42,10 +42,12 @@ abbrev pub with_woken : List Bool → List ℕ → List Bool
 with_woken woken [] = woken
 with_woken woken (k ∷ ks) = with_woken (slice_set woken k true) ks
 
--- so are the parts on the atoms' variables
-abbrev pub with_touched : List Bool → List (List ℕ) → List Atomic → List Bool
-with_touched woken lists [] = woken
-with_touched woken lists (a ∷ atoms) = with_touched (with_woken woken (get_or lists a.var [])) lists atoms
+-- from woken parts and a state to others: who is not woken now was not before, and the variables in whose lists it is keep their sets
+pub record IsFollowed (lists : List (List ℕ)) (before : List Bool) (d : Domains) (now : List Bool) (e : Domains) : Type 0 where
+  pub bits : length now ≡ length before
+  pub sets : length e ≡ length d
+  pub kept : (k : ℕ) → get_or now k true ≡ false → get_or before k true ≡ false
+  pub same : (k x : ℕ) → get_or now k true ≡ false → Among k (get_or lists x []) → values e x ≡ values d x
 
 -- the place is one more in the list of each variable of the scope
 abbrev pub entered : List (List ℕ) → ℕ → List ℕ → List (List ℕ)

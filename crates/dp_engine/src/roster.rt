@@ -1,6 +1,6 @@
 // The parts of the model and the nogoods, by their places.
 
-ghost use Rattle.std.specs.Prelude.{◌≡◌, ℕ, ◌+◌, ◌-◌, ◌^◌, ◌<◌, ◌≤◌, ◌++◌, ◌∷◌, [], false, Some, length, map, slice_get, vec_len, vec_capacity, IfOk, OnErr, OnOk};
+ghost use Rattle.std.specs.Prelude.{◌≡◌, ℕ, ◌+◌, ◌-◌, ◌^◌, ◌<◌, ◌≤◌, ◌++◌, ◌∷◌, [], false, Some, length, map, slice_get, IfOk, OnErr, OnOk};
 ghost use Rattle.std.specs.Option.{option_map};
 ghost use Rattle.dp_base.specs.Lists.{Each};
 ghost use Rattle.dp_domain.specs.States.{is_dead};
@@ -13,6 +13,7 @@ ghost use Rattle.dp_engine.specs.Turns.{told};
 ghost use Rattle.dp_engine.specs.Woken.{IsIndex, entered};
 
 use crate::occurrences::Occurrences;
+use crate::trail::push_reserved;
 use crate::{Nogood, PartId, Problem, Turn};
 use dp_domain::{Found, Memory, Rule, State, Steps};
 use dp_parts::Part;
@@ -195,17 +196,6 @@ fn told_if(id: PartId, found: Option<Found>) -> Option<Turn>
     match found {
         Some(found) => Some(told(id, found)),
         None => None,
-    }
-}
-
-/// Adds an item for which there is room.
-fn push_reserved<T: Drop>(items: &mut Vec<T>, item: T)
-    requires { vec_len items.old < vec_capacity items.old }
-    ensures { items.new.items ≡ items.old.items ++ item ∷ [] }
-{
-    match items.push(item) {
-        Ok(()) => {}
-        Err(_) => unreachable!(),
     }
 }
 

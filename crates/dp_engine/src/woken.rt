@@ -94,15 +94,6 @@ impl Woken {
             self.wake(*place);
         }
     }
-
-    /// Wakes all parts.
-    pub fn wake_all(&mut self)
-        ensures count { length self.new ≡ length self.old }
-        ensures all { (k : ℕ) → get_or self.new k true ≡ true }
-    {
-        fill(&mut self.bits);
-        self.lowest = 0;
-    }
 }
 
 /// The first place from one on at which there is true.
@@ -115,15 +106,6 @@ fn first_from(bits: &[bool], from: usize) -> Option<usize>
         }
     }
     None
-}
-
-fn fill(bits: &mut Vec<bool>)
-    ensures count { length bits.new.items ≡ length bits.old.items }
-    ensures all { (k : ℕ) → get_or bits.new.items k true ≡ true }
-{
-    for place in 0..bits.len() {
-        bits[place] = true;
-    }
 }
 
 fn all_true(alloc: Global, count: usize) -> Result<Vec<bool>, Memory>
