@@ -1,9 +1,9 @@
-ghost use Rattle.std.specs.Prelude.{◌≡◌, ◌^◌, ◌<◌, ◌∷◌, [], nat_eq, length, codes, IfOk, IsTrue, OnOk};
+ghost use Rattle.std.specs.Prelude.{◌≡◌, ◌^◌, ◌<◌, ◌≤◌, ◌∷◌, [], nat_eq, length, codes, IfOk, IsTrue, OnOk};
 ghost use Rattle.std.specs.Cmp.Lexicographic.{pointwise};
 ghost use Rattle.indexmap.specs.IndexMap.{insert_entry};
 ghost use Rattle.dp_base.specs.Lists.{Each};
 ghost use Rattle.dp_domain.specs.States.{AreOf};
-ghost use Rattle.dp_engine.specs.Engines.{Extends, KeepsParts};
+ghost use Rattle.dp_engine.specs.Engines.{KeepsParts};
 ghost use Rattle.dp_parts.specs.Parts.{face_of};
 
 use super::*;
@@ -241,16 +241,33 @@ fn turn_of(row: Row) -> Result<Turn, Memory> {
     }
 }
 
+// The next turn. The states before the present one are no fewer than before.
+fn steps_on<L: Ledger>(engine: &mut Engine, steps: &mut Steps<L>) -> Result<Turn, Memory>
+    ensures parts { KeepsParts engine.old engine.new }
+    ensures longer { length engine.old.past ≤ length engine.new.past }
+{
+    engine.step(steps)
+}
+
+// The same of atoms that are assumed.
+fn assumes(engine: &mut Engine, atoms: &[Atom]) -> Result<bool, Memory>
+    requires { AreOf engine.old.problem.initial atoms.now }
+    ensures parts { KeepsParts engine.old engine.new }
+    ensures longer { length engine.old.past ≤ length engine.new.past }
+{
+    engine.assume(atoms)
+}
+
 fn takes_counted<L: Ledger>(engine: &mut Engine, rows: &[Row], blank: Blank) -> Result<bool, Memory>
     requires name { blank.name ≡ L.name }
     requires parts { blank.parts ≡ L.parts }
     requires some { 0 < blank.parts }
     ensures parts { KeepsParts engine.old engine.new }
-    ensures states { Extends engine.old engine.new }
+    ensures longer { length engine.old.past ≤ length engine.new.past }
 {
     let mut steps = Steps::<L>::new(blank);
     for row in rows {
-        let turn = engine.step(&mut steps)?;
+        let turn = steps_on(engine, &mut steps)?;
         let wanted = turn_of(*row)?;
         if turn != wanted {
             return Ok(false);
@@ -262,7 +279,7 @@ fn takes_counted<L: Ledger>(engine: &mut Engine, rows: &[Row], blank: Blank) -> 
 // Whether the next turns are these, by a counter of their own.
 fn takes(engine: &mut Engine, rows: &[Row]) -> Result<bool, Memory>
     ensures parts { KeepsParts engine.old engine.new }
-    ensures states { Extends engine.old engine.new }
+    ensures longer { length engine.old.past ≤ length engine.new.past }
 {
     takes_counted::<Brand>(engine, rows, Blank::new(1))
 }
@@ -405,10 +422,10 @@ fn back_to_a_mark_and_a_nogood_more(rt: HostRuntime) -> Result<(), Fail> {
 fn goes_on(alloc: Global, engine: &mut Engine, used: &[Used], rows: &[Row]) -> Result<bool, Memory>
     requires { length engine.old.problem.initial ≡ 2 }
     ensures parts { KeepsParts engine.old engine.new }
-    ensures states { Extends engine.old engine.new }
+    ensures longer { length engine.old.past ≤ length engine.new.past }
 {
     let atoms = atoms_of(alloc, used)?;
-    let _alive = engine.assume(atoms.as_slice())?;
+    let _alive = assumes(engine, atoms.as_slice())?;
     takes(engine, rows)
 }
 
