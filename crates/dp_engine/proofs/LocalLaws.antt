@@ -58,9 +58,9 @@ test_cut : (f : Face) (d e : Domains) (a : Atomic) → IsLawful f → Alike f d 
 test_cut f d e a lawful s h = elim (cases_Bool (is_dead (cut d a))) [
   | inl t ↦ lawful.dead (cut d a) t ∙ sym (lawful.dead (cut e a) (dead_alike f d e a s h t))
   | inr n ↦ elim (cases_Bool (is_dead (cut e a))) [
-      | inl t ↦ absurd (both_ways (is_dead (cut d a)) n (dead_alike f e d a (turned f d e s) h t))
-      | inr m ↦ lawful.local (cut d a) (cut e a) n m (cut_agree f d e a s h)
-    ]
+    | inl t ↦ absurd (both_ways (is_dead (cut d a)) n (dead_alike f e d a (turned f d e s) h t))
+    | inr m ↦ lawful.local (cut d a) (cut e a) n m (cut_agree f d e a s h)
+  ]
 ]
 
 gives_alike : (f : Face) (d e : Domains) (a : Atomic) → IsLawful f → Alike f d e → Among a.var f.scope → gives f d a ≡ gives f e a

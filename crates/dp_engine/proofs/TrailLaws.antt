@@ -34,7 +34,7 @@ set_again (x ∷ xs) (suc i) y = ap (λ ys. x ∷ ys) (set_again xs i y)
 pub past-cut : (cs now : List Change) (c : Change) (d e : Domains) (a : Atomic) → now ≡ cs ++ c ∷ [] → c.var ≡ a.var → c.set ≡ values d a.var → e ≡ cut d a → past_of now e ≡ past_of cs d ++ d ∷ []
 past-cut cs now c d e a n v s h =
     let back : undone c e ≡ d =
-        ap (undone c) h ∙ ap (λ x. set (cut d a) x c.set) v ∙ ap (λ vs. set (cut d a) a.var vs) s ∙ set_again d a.var (filter (meets a) (values d a.var)) in
+    ap (undone c) h ∙ ap (λ x. set (cut d a) x c.set) v ∙ ap (λ vs. set (cut d a) a.var vs) s ∙ set_again d a.var (filter (meets a) (values d a.var)) in
     ap (λ bs. past_of bs e) n ∙ past-push cs c e ∙ ap (λ (b : Domains). past_of cs b ++ b ∷ []) back
 
 -- the changes are of variables that there are, with one more

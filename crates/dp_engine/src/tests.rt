@@ -450,10 +450,7 @@ fn goes_and_comes(
 fn a_nogood_waits_again_after_its_turn_is_undone(rt: HostRuntime) -> Result<(), Fail> {
     let alloc = rt.alloc();
     let problem = without_turns(alloc)?;
-    let nogoods = [nogood_of(
-        alloc,
-        &[(0, Op::Ge, 1), (0, Op::Le, 4), (1, Op::Ge, 1)],
-    )?];
+    let nogoods = [nogood_of(alloc, &[(0, Op::Ge, 1), (0, Op::Le, 4), (1, Op::Ge, 1)])?];
     let mut engine = Engine::new(alloc, &problem, &nogoods)?;
     let waits: (&[Used], &[Row]) = (&[(1, Op::Ge, 1)], &[Row::Quiet]);
     let turns = [Row::Gives(PartId::Nogood(0), (0, Op::Ge, 5)), Row::Quiet];

@@ -16,9 +16,11 @@ returns-in-Some-turn-clause-searched g c =
     let sum = c.loop-place.invariant.sum in
     let ticked = c.turn.ensures.ticked in
     let bound : c.turn.new.steps + owed_of c.loop-place.woken ≤ (c.args.steps.now + owed_of c.args.woken.now) + 1 = omega arith in
-    subst (λ (vs : List Bool). (c.turn.new.steps + owed_of vs ≤ (c.args.steps.now + owed_of c.args.woken.now) + 1) × IsFound (all_placed c.args.roster.now) c.args.state.now vs c.in-Some.place c.in-Some-turn.turn) (sym c.first.ensures.same)
-    (bound, is-found (all_placed c.args.roster.now) c.loop-place.woken c.args.state.now c.in-Some.place w.0 c.in-Some-turn.turn count c.requires.alive c.loop-place.invariant.rest first w.1
-    (sym c.in-Some-turn.is ∙ c.in_ok-turn.ensures.turn w.0 w.1))
+    subst (λ (vs : List Bool). (c.turn.new.steps + owed_of vs ≤ (c.args.steps.now + owed_of c.args.woken.now) + 1) × IsFound (all_placed c.args.roster.now) c.args.state.now vs c.in-Some.place c.in-Some-turn.turn) (sym c.first.ensures.same) (
+      bound,
+      is-found (all_placed c.args.roster.now) c.loop-place.woken c.args.state.now c.in-Some.place w.0 c.in-Some-turn.turn count c.requires.alive c.loop-place.invariant.rest first w.1
+          (sym c.in-Some-turn.is ∙ c.in_ok-turn.ensures.turn w.0 w.1),
+    )
 
 pub loop-place-smaller : goal.loop-place-smaller
 loop-place-smaller g c =

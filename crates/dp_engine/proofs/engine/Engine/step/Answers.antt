@@ -34,7 +34,7 @@ first_turn-requires g c =
 pub apply-requires : goal.apply-requires
 apply-requires g c =
     let found = found-facts (all_placed c.self.inside.roster) (turn_order (posed c.self.inside.problem.now) c.self.inside.roster.nogoods) c.present-state.result.now c.self.inside.trail.present c.first_turn.new.woken (c.args.steps.now + owed_of c.self.inside.woken) (c.first_turn.new.steps + owed_of c.first_turn.new.woken)
-        c.in_ok-found.found c.in-Some.place c.in-Some.turn c.self.invariant.parts c.present-state.ensures c.in-Some.is c.in_ok-found.ensures.searched in
+    c.in_ok-found.found c.in-Some.place c.in-Some.turn c.self.invariant.parts c.present-state.ensures c.in-Some.is c.in_ok-found.ensures.searched in
     let count : length c.self.inside.trail.present ≡ length c.self.inside.problem.now.initial = counted-last c.self.inside.trail.past c.self.inside.trail.present (length c.self.inside.problem.now.initial) c.self.invariant.engine.states in
     let bits : length c.first_turn.new.woken ≡ length (turn_order (posed c.self.inside.problem.now) c.self.inside.roster.nogoods) = c.first_turn.ensures.count ∙ c.self.invariant.count in
     record {
@@ -47,7 +47,7 @@ apply-requires g c =
 pub invariant_of-self : goal.invariant_of-self
 invariant_of-self g c =
     let rest : Rest (turn_order (posed c.self.inside.problem.now) c.self.inside.roster.nogoods) c.first_turn.new.woken c.self.inside.trail.present = subst (λ (qs : List Placed). Rest qs c.first_turn.new.woken c.self.inside.trail.present) c.self.invariant.parts
-        (subst (λ (d : Domains). Rest (all_placed c.self.inside.roster) c.first_turn.new.woken d) c.present-state.ensures c.first_turn.ensures.rest) in
+    (subst (λ (d : Domains). Rest (all_placed c.self.inside.roster) c.first_turn.new.woken d) c.present-state.ensures c.first_turn.ensures.rest) in
     tracked-moved c.self.inside.problem.now c.self.inside.roster c.self.inside.occurrences c.self.inside.trail.past c.self.inside.trail.past c.self.inside.trail.present c.self.inside.trail.present c.self.inside.woken c.first_turn.new.woken
     c.self.invariant c.self.invariant.engine.states c.first_turn.ensures.count rest
 
@@ -59,7 +59,7 @@ returns-in_err-found-clause-counted g c =
 pub invariant_of-self-in_err-apply-in-Some : goal.invariant_of-self-in_err-apply-in-Some
 invariant_of-self-in_err-apply-in-Some g c =
     let rest : Rest (turn_order (posed c.self.inside.problem.now) c.self.inside.roster.nogoods) c.first_turn.new.woken c.self.inside.trail.present = subst (λ (qs : List Placed). Rest qs c.first_turn.new.woken c.self.inside.trail.present) c.self.invariant.parts
-        (subst (λ (d : Domains). Rest (all_placed c.self.inside.roster) c.first_turn.new.woken d) c.present-state.ensures c.first_turn.ensures.rest) in
+    (subst (λ (d : Domains). Rest (all_placed c.self.inside.roster) c.first_turn.new.woken d) c.present-state.ensures c.first_turn.ensures.rest) in
     tracked-moved c.self.inside.problem.now c.self.inside.roster c.self.inside.occurrences c.self.inside.trail.past c.apply.new.trail.past c.self.inside.trail.present c.apply.new.trail.present c.self.inside.woken c.apply.new.woken
     c.self.invariant
     (c.apply.ensures.counts (length c.self.inside.problem.now.initial) c.self.invariant.engine.states)
@@ -70,7 +70,7 @@ invariant_of-self-in_err-apply-in-Some g c =
 pub returns-in_err-apply-in-Some-clause-counted : goal.returns-in_err-apply-in-Some-clause-counted
 returns-in_err-apply-in-Some-clause-counted g c =
     let found = found-facts (all_placed c.self.inside.roster) (turn_order (posed c.self.inside.problem.now) c.self.inside.roster.nogoods) c.present-state.result.now c.self.inside.trail.present c.first_turn.new.woken (c.args.steps.now + owed_of c.self.inside.woken) (c.first_turn.new.steps + owed_of c.first_turn.new.woken)
-        c.in_ok-found.found c.in-Some.place c.in-Some.turn c.self.invariant.parts c.present-state.ensures c.in-Some.is c.in_ok-found.ensures.searched in
+    c.in_ok-found.found c.in-Some.place c.in-Some.turn c.self.invariant.parts c.present-state.ensures c.in-Some.is c.in_ok-found.ensures.searched in
     subst (λ (e : Propagation). (x : ℕ) × (c.first_turn.new.steps ≡ c.args.steps.now + x) × MatchResult c.from_residual-in_err-apply-in-Some.result (IsCounted (parts_of e) e.owed x (owed_of c.apply.new.woken)) (λ m. x + owed_of c.apply.new.woken ≤ e.owed + 1)) c.self.view_is
     (counted-err _ c.from_residual-in_err-apply-in-Some.result (turn_order (posed c.self.inside.problem.now) c.self.inside.roster.nogoods) (owed_of c.self.inside.woken) c.args.steps.now c.first_turn.new.steps (owed_of c.apply.new.woken) c.from_residual-in_err-apply-in-Some.ensures.1 c.first_turn.ensures.more
     (subst (λ (vs : List Bool). c.first_turn.new.steps + owed_of vs ≤ (c.args.steps.now + owed_of c.self.inside.woken) + 1) (sym c.in_err-apply-in-Some.ensures.woken_stays) found.0))
@@ -78,12 +78,12 @@ returns-in_err-apply-in-Some-clause-counted g c =
 pub invariant_of-self-in-Some : goal.invariant_of-self-in-Some
 invariant_of-self-in-Some g c =
     let found = found-facts (all_placed c.self.inside.roster) (turn_order (posed c.self.inside.problem.now) c.self.inside.roster.nogoods) c.present-state.result.now c.self.inside.trail.present c.first_turn.new.woken (c.args.steps.now + owed_of c.self.inside.woken) (c.first_turn.new.steps + owed_of c.first_turn.new.woken)
-        c.in_ok-found.found c.in-Some.place c.in-Some.turn c.self.invariant.parts c.present-state.ensures c.in-Some.is c.in_ok-found.ensures.searched in
+    c.in_ok-found.found c.in-Some.place c.in-Some.turn c.self.invariant.parts c.present-state.ensures c.in-Some.is c.in_ok-found.ensures.searched in
     let sound : AreSound (length c.self.inside.problem.now.initial) (turn_order (posed c.self.inside.problem.now) c.self.inside.roster.nogoods) = problem-sound c.self.inside.problem.now c.self.inside.roster.nogoods c.self.invariant.engine.problem c.self.invariant.engine.nogoods in
     let rest : Rest (turn_order (posed c.self.inside.problem.now) c.self.inside.roster.nogoods) c.first_turn.new.woken c.self.inside.trail.present = subst (λ (qs : List Placed). Rest qs c.first_turn.new.woken c.self.inside.trail.present) c.self.invariant.parts
-        (subst (λ (d : Domains). Rest (all_placed c.self.inside.roster) c.first_turn.new.woken d) c.present-state.ensures c.first_turn.ensures.rest) in
+    (subst (λ (d : Domains). Rest (all_placed c.self.inside.roster) c.first_turn.new.woken d) c.present-state.ensures c.first_turn.ensures.rest) in
     let turn = rest-applied (length c.self.inside.problem.now.initial) (turn_order (posed c.self.inside.problem.now) c.self.inside.roster.nogoods) c.self.inside.occurrences c.first_turn.new.woken c.self.inside.trail.present c.in-Some.place c.in-Some.turn sound c.self.invariant.index
-        (ap is_dead (sym c.present-state.ensures) ∙ sym c.dead.ensures ∙ c.if-dead.false) (turn-atoms (length c.self.inside.problem.now.initial) (turn_order (posed c.self.inside.problem.now) c.self.inside.roster.nogoods) c.self.inside.trail.present c.in-Some.turn sound found.1.first) found.1 rest in
+    (ap is_dead (sym c.present-state.ensures) ∙ sym c.dead.ensures ∙ c.if-dead.false) (turn-atoms (length c.self.inside.problem.now.initial) (turn_order (posed c.self.inside.problem.now) c.self.inside.roster.nogoods) c.self.inside.trail.present c.in-Some.turn sound found.1.first) found.1 rest in
     tracked-moved c.self.inside.problem.now c.self.inside.roster c.self.inside.occurrences c.self.inside.trail.past c.apply.new.trail.past c.self.inside.trail.present c.apply.new.trail.present c.self.inside.woken c.apply.new.woken
     c.self.invariant
     (c.apply.ensures.counts (length c.self.inside.problem.now.initial) c.self.invariant.engine.states)
@@ -94,28 +94,28 @@ invariant_of-self-in-Some g c =
 pub returns-in-None-clause-meaning : goal.returns-in-None-clause-meaning
 returns-in-None-clause-meaning g c =
     let quiet = quiet-facts (all_placed c.self.inside.roster) (turn_order (posed c.self.inside.problem.now) c.self.inside.roster.nogoods) c.present-state.result.now c.self.inside.trail.present c.first_turn.new.woken (c.args.steps.now + owed_of c.self.inside.woken) (c.first_turn.new.steps + owed_of c.first_turn.new.woken)
-        c.in_ok-found.found c.self.invariant.parts c.present-state.ensures c.in-None.is c.in_ok-found.ensures.searched in
+    c.in_ok-found.found c.self.invariant.parts c.present-state.ensures c.in-None.is c.in_ok-found.ensures.searched in
     subst (λ (e : Propagation). IsTurnAt (parts_of e) e.present Quiet) c.self.view_is
     (turn-meant c.self.inside.problem.now c.self.inside.roster.nogoods c.self.inside.trail.present Quiet c.self.invariant.engine.problem c.self.invariant.engine.nogoods quiet.1)
 
 pub returns-in-None-clause-counted : goal.returns-in-None-clause-counted
 returns-in-None-clause-counted g c =
     let quiet = quiet-facts (all_placed c.self.inside.roster) (turn_order (posed c.self.inside.problem.now) c.self.inside.roster.nogoods) c.present-state.result.now c.self.inside.trail.present c.first_turn.new.woken (c.args.steps.now + owed_of c.self.inside.woken) (c.first_turn.new.steps + owed_of c.first_turn.new.woken)
-        c.in_ok-found.found c.self.invariant.parts c.present-state.ensures c.in-None.is c.in_ok-found.ensures.searched in
+    c.in_ok-found.found c.self.invariant.parts c.present-state.ensures c.in-None.is c.in_ok-found.ensures.searched in
     subst (λ (e : Propagation). (x : ℕ) × (c.first_turn.new.steps ≡ c.args.steps.now + x) × (x + owed_of c.first_turn.new.woken ≤ e.owed)) c.self.view_is
     (counted-quiet (owed_of c.self.inside.woken) c.args.steps.now c.first_turn.new.steps (owed_of c.first_turn.new.woken) c.first_turn.ensures.more quiet.0)
 
 pub returns-in_ok-apply-in-Some-clause-meaning : goal.returns-in_ok-apply-in-Some-clause-meaning
 returns-in_ok-apply-in-Some-clause-meaning g c =
     let found = found-facts (all_placed c.self.inside.roster) (turn_order (posed c.self.inside.problem.now) c.self.inside.roster.nogoods) c.present-state.result.now c.self.inside.trail.present c.first_turn.new.woken (c.args.steps.now + owed_of c.self.inside.woken) (c.first_turn.new.steps + owed_of c.first_turn.new.woken)
-        c.in_ok-found.found c.in-Some.place c.in-Some.turn c.self.invariant.parts c.present-state.ensures c.in-Some.is c.in_ok-found.ensures.searched in
+    c.in_ok-found.found c.in-Some.place c.in-Some.turn c.self.invariant.parts c.present-state.ensures c.in-Some.is c.in_ok-found.ensures.searched in
     subst (λ (e : Propagation). IsTurnAt (parts_of e) e.present c.in-Some.turn) c.self.view_is
     (turn-meant c.self.inside.problem.now c.self.inside.roster.nogoods c.self.inside.trail.present c.in-Some.turn c.self.invariant.engine.problem c.self.invariant.engine.nogoods found.1.first)
 
 pub returns-in_ok-apply-in-Some-clause-counted : goal.returns-in_ok-apply-in-Some-clause-counted
 returns-in_ok-apply-in-Some-clause-counted g c =
     let found = found-facts (all_placed c.self.inside.roster) (turn_order (posed c.self.inside.problem.now) c.self.inside.roster.nogoods) c.present-state.result.now c.self.inside.trail.present c.first_turn.new.woken (c.args.steps.now + owed_of c.self.inside.woken) (c.first_turn.new.steps + owed_of c.first_turn.new.woken)
-        c.in_ok-found.found c.in-Some.place c.in-Some.turn c.self.invariant.parts c.present-state.ensures c.in-Some.is c.in_ok-found.ensures.searched in
+    c.in_ok-found.found c.in-Some.place c.in-Some.turn c.self.invariant.parts c.present-state.ensures c.in-Some.is c.in_ok-found.ensures.searched in
     let sound : AreSound (length c.self.inside.problem.now.initial) (turn_order (posed c.self.inside.problem.now) c.self.inside.roster.nogoods) = problem-sound c.self.inside.problem.now c.self.inside.roster.nogoods c.self.invariant.engine.problem c.self.invariant.engine.nogoods in
     subst (λ (e : Propagation). (x : ℕ) × (c.first_turn.new.steps ≡ c.args.steps.now + x) × IsCounted (parts_of e) e.owed x (owed_of c.apply.new.woken) c.in-Some.turn) c.self.view_is
     (counted-step (length c.self.inside.problem.now.initial) (turn_order (posed c.self.inside.problem.now) c.self.inside.roster.nogoods) c.self.inside.occurrences c.first_turn.new.woken c.apply.new.woken c.self.inside.trail.present c.in-Some.place c.in-Some.turn (owed_of c.self.inside.woken)

@@ -13,8 +13,8 @@ returns-clause-past c =
 pub returns-clause-var : goal.returns-clause-var
 returns-clause-var c =
     let below : c.in-Some.change.var < length c.self.inside.present =
-        (changes-front c.pop.new.self.items c.self.inside.changes.items c.in-Some.change (length c.self.inside.present) c.in-Some.ensures.items c.self.invariant).1 in
+    (changes-front c.pop.new.self.items c.self.inside.changes.items c.in-Some.change (length c.self.inside.present) c.in-Some.ensures.items c.self.invariant).1 in
     let count : length c.put_back.new.state ≡ length c.self.inside.present =
-        ap (λ (d : Domains). length d) c.put_back.ensures.state ∙ length-set c.self.inside.present c.in-Some.change.var c.in-Some.change.set in
+    ap (λ (d : Domains). length d) c.put_back.ensures.state ∙ length-set c.self.inside.present c.in-Some.change.var c.in-Some.change.set in
     let same = c.put_back.ensures.var in
     omega arith
