@@ -11,10 +11,6 @@ use Rattle.dp_engine.proofs.PlacedLaws.{problem-sound}
 use Rattle.dp_engine.proofs.StateSteps.{Each-push, atoms-moved}
 use Rattle.dp_engine.proofs.TurnLaws.{turn-atoms, turn_at-is}
 
--- one nogood more among those that were added
-pub one-more : (ns ms ks : List (List Atomic)) (n : List Atomic) → ks ≡ ms ++ n ∷ [] → ns ++ ks ≡ (ns ++ ms) ++ n ∷ []
-one-more ns ms ks n e = ap (λ xs. ns ++ xs) e ∙ sym (append_assoc ns ms (n ∷ []))
-
 pub few-more : (ns ks : List (List Atomic)) (n : List Atomic) → ks ≡ ns ++ n ∷ [] → length ns < 2 ^ 32 - 1 → length ks < 2 ^ 32
 few-more ns ks n e h = omega (arith, simp length-append at (ap (λ (xs : List (List Atomic)). length xs) e))
 

@@ -6,3 +6,9 @@ pub mod SearchSteps
 pub mod StateSteps
 pub mod EngineSteps
 pub mod TestProblem
+pub mod TrailLaws
+pub mod LocalLaws
+pub mod WokenLaws
+pub mod RosterLaws
+pub mod StepLaws
+pub mod TrackedLaws

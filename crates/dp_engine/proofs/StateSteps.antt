@@ -1,18 +1,11 @@
 -- Steps on the list of states.
-use Rattle.std.proofs.Common.{◌≡◌, ℕ, zero, suc, ◌≤◌, ◌<◌, List, [], ◌∷◌, ◌++◌, length, get_or, set, take, append-nil, refl, sym, ◌∙◌, ap, subst, arith, length-append}
+use Rattle.std.proofs.Common.{◌≡◌, ℕ, zero, suc, ◌+◌, ◌≤◌, ◌<◌, List, [], ◌∷◌, ◌++◌, length, get_or, set, take, drop, append-nil, append_assoc, refl, sym, ◌∙◌, ap, subst, arith, length-append}
+use Rattle.std.proofs.lemmas.List.{drop_more}
 use Rattle.dp_base.specs.Lists.{Each}
 use Rattle.dp_domain.specs.Atoms.{Atomic}
-use Rattle.dp_domain.specs.States.{Domains, cut_all}
+use Rattle.dp_domain.specs.States.{Domains, cut, cut_all}
 use Rattle.dp_domain.proofs.StateLaws.{length-cut_all}
 use Rattle.dp_engine.specs.Engines.{Begins, HaveCount}
-
-set_last : {A : Type 0} (xs : List A) (y z : A) → set (xs ++ y ∷ []) (length xs) z ≡ xs ++ z ∷ []
-set_last [] y z = refl
-set_last (x ∷ xs) y z = ap (λ ys. x ∷ ys) (set_last xs y z)
-
--- the last item written over
-pub set-last : {A : Type 0} (xs ys : List A) (n : ℕ) (y z : A) → ys ≡ xs ++ y ∷ [] → n ≡ length xs → set ys n z ≡ xs ++ z ∷ []
-set-last xs ys n y z e f = ap (λ zs. set zs n z) e ∙ ap (λ k. set (xs ++ y ∷ []) k z) f ∙ set_last xs y z
 
 -- a fact of each item of a list and one more
 pub Each-push : {A : Type 0} (P : A → Type 0) (xs : List A) (y : A) → Each P xs → P y → Each P (xs ++ y ∷ [])
@@ -67,3 +60,21 @@ get-last xs ys n y d e f = ap (λ zs. get_or zs n d) e ∙ ap (λ k. get_or (xs 
 -- the states before are no more than those now
 pub begins-longer : (p q : List Domains) (d e : Domains) → Begins (p ++ d ∷ []) (q ++ e ∷ []) → length p ≤ length q
 begins-longer p q d e b = omega (arith, simp length-append at (ap (λ (ds : List Domains). length ds) b.1))
+
+-- states that begin with those that begin with others
+pub begins-then : (first mid now : List Domains) → Begins first mid → Begins mid now → Begins first now
+begins-then first mid now b c = (b.0 ++ c.0, c.1 ∙ ap (λ ds. ds ++ c.0) b.1 ∙ append_assoc first b.0 c.0)
+
+-- one atom less is left
+pub cut-step : (d e : Domains) (atoms : List Atomic) (i : ℕ) (a : Atomic) → i < length atoms → a ≡ get_or atoms i a → e ≡ cut d a → cut_all e (drop (i + 1) atoms) ≡ cut_all d (drop i atoms)
+cut-step d e atoms i a l f h =
+    ap (λ (b : Domains). cut_all b (drop (i + 1) atoms)) h
+    ∙ sym (ap (cut_all d) (drop_more atoms i a l ∙ ap (λ (b : Atomic). b ∷ drop (i + 1) atoms) (sym f)))
+
+take_all : {A : Type 0} (xs : List A) → take (length xs) xs ≡ xs
+take_all [] = refl
+take_all (x ∷ xs) = ap (λ ys. x ∷ ys) (take_all xs)
+
+-- a list as long as so many items is the first so many
+pub take-all : {A : Type 0} (xs : List A) (n : ℕ) → n ≡ length xs → take n xs ≡ xs
+take-all xs n e = ap (λ k. take k xs) e ∙ take_all xs

@@ -1,38 +1,44 @@
 // The engine: turn after turn over a problem and nogoods, and back again.
 
-ghost use Rattle.std.specs.Prelude.{◌≡◌, ℕ, ◌^◌, ◌+◌, ◌-◌, ◌<◌, ◌≤◌, not, [], ◌∷◌, ◌++◌, length, take, IfOk, OnOk, OnErr};
+ghost use Rattle.std.specs.Prelude.{◌≡◌, ℕ, ◌^◌, ◌+◌, ◌-◌, ◌<◌, ◌≤◌, not, [], ◌∷◌, ◌++◌, length, take, IfOk, MatchResult, OnOk, OnErr};
 ghost use Rattle.dp_base.specs.Lists.{Each};
 ghost use Rattle.dp_domain.specs.States.{AreOf, cut_all, is_dead};
 ghost use Rattle.dp_engine.specs.Engines.{Begins, Extends, HaveCount, IsEngine, KeepsParts, KeepsStates, Starts, parts_of, states};
 ghost use Rattle.dp_engine.specs.Turns.{IsTurnAt, applied, atoms_of, turn_at};
+ghost use Rattle.dp_engine.specs.Trails.{all_of};
+ghost use Rattle.dp_engine.specs.Woken.{ArePlaces, IsCounted, IsFollowed, woken_after};
 
-use crate::search::turn_at;
-use crate::states::{advance, rewind};
+use crate::occurrences::Occurrences;
+use crate::roster::Roster;
+use crate::search::first_turn;
+use crate::trail::Trail;
+use crate::woken::Woken;
 use crate::{Atom, Memory, Nogood, Problem, State, Steps, Turn};
 use std::alloc::Global;
 use std::marker::Model;
 use std::sync::ledger::Ledger;
 
 /// An engine: a problem and nogoods, whose parts take turns, and the list of states so far, the
-/// present one last.
+/// present one last. Of the parts those alone are asked that are woken: one that had no turn rests until
+/// the set of one of its variables changes.
 #[derive(Drop)]
 pub struct Engine<'p> {
     problem: &'p Problem,
-    given: &'p [Nogood],
-    added: Vec<Nogood>,
-    past: Vec<State>,
-    present: State,
+    roster: Roster<'p>,
+    occurrences: Occurrences,
+    woken: Woken,
+    trail: Trail,
 }
 
 impl<'p> Model for Engine<'p> {
-    ghost use Rattle.std.specs.Prelude.{◌++◌};
-    ghost use Rattle.dp_engine.specs.Engines.{IsEngine, Propagation};
+    ghost use Rattle.dp_engine.specs.Engines.{Propagation};
+    ghost use Rattle.dp_engine.specs.Woken.{IsTracked, owed_of};
 
     ghost Value = { Propagation };
 
-    ghost view = { λ e. record { problem = e.problem.now; nogoods = e.given.now ++ e.added.items; past = e.past.items; present = e.present; owed = 0 } };
+    ghost view = { λ e. record { problem = e.problem.now; nogoods = e.roster.nogoods; past = e.trail.past; present = e.trail.present; owed = owed_of e.woken } };
 
-    ghost invariant = { λ e. IsEngine (record { problem = e.problem.now; nogoods = e.given.now ++ e.added.items; past = e.past.items; present = e.present; owed = 0 }) };
+    ghost invariant = { λ e. IsTracked (record { problem = e.problem.now; nogoods = e.roster.nogoods; past = e.trail.past; present = e.trail.present; owed = owed_of e.woken }) e.roster e.occurrences e.woken };
 }
 
 impl<'p> Engine<'p> {
@@ -46,12 +52,16 @@ impl<'p> Engine<'p> {
         requires nogoods { Each (AreOf problem.now.initial) nogoods.now }
         ensures { IfOk result (Starts problem.now nogoods.now) }
     {
+        let roster = Roster::new(alloc, problem, nogoods)?;
+        let present = problem.initial().copy()?;
+        let occurrences = roster.occurrences(alloc, present.len())?;
+        let woken = Woken::all(alloc, roster.len())?;
         Ok(Engine {
             problem,
-            given: nogoods,
-            added: Vec::new(alloc),
-            past: Vec::new(alloc),
-            present: problem.initial().copy()?,
+            roster,
+            occurrences,
+            woken,
+            trail: Trail::new(alloc, present),
         })
     }
 
@@ -60,7 +70,7 @@ impl<'p> Engine<'p> {
         ensures state { result.now ≡ self.now.present }
         ensures engine { IsEngine self.now }
     {
-        &self.present
+        self.trail.present()
     }
 
     /// Goes on to the state with these atoms, and answers whether each variable has a value left.
@@ -73,13 +83,19 @@ impl<'p> Engine<'p> {
         ensures alive { IfOk result (λ alive. alive ≡ not (is_dead self.new.present)) }
         ensures unchanged { OnErr result (KeepsStates self.old self.new) }
     {
-        advance(&mut self.past, &mut self.present, atoms)?;
-        Ok(!self.present.dead())
+        let mark = self.trail.len();
+        let cut = cut_each(&mut self.trail, &mut self.woken, &self.occurrences, atoms);
+        if cut.is_err() {
+            go_back(&mut self.trail, &mut self.woken, &self.occurrences, mark);
+            return Err(Memory);
+        }
+        Ok(!self.trail.present().dead())
     }
 
     /// The turn at the present state, which is then applied: Empty exactly where some variable has no
     /// value left; else what the first part gives that clashes, or from which a new atom follows; else
-    /// Quiet. Want of memory leaves the engine's parts and states as they were.
+    /// Quiet. Want of memory leaves the engine's parts and states as they were. Each part that is asked ticks once, and only parts
+    /// that are owed a search are asked.
     pub fn step<L: Ledger>(&mut self, steps: &mut Steps<L>) -> Result<Turn, Memory>
         ensures turn { IfOk result (λ turn. turn ≡ turn_at (parts_of self.old) self.old.present) }
         ensures meaning { IfOk result (IsTurnAt (parts_of self.old) self.old.present) }
@@ -87,23 +103,33 @@ impl<'p> Engine<'p> {
         ensures present { IfOk result (λ turn. self.new.present ≡ applied self.old.present turn) }
         ensures states { Extends self.old self.new }
         ensures unchanged { OnErr result (KeepsStates self.old self.new) }
+        ensures counted { (searches : ℕ) × (steps.new ≡ steps.old + searches) × MatchResult result (IsCounted (parts_of self.old) self.old.owed searches self.new.owed) (λ e. searches + self.new.owed ≤ self.old.owed + 1) }
     {
-        let turn = turn_at(
-            self.problem,
-            self.given,
-            self.added.as_slice(),
-            &self.present,
-            steps,
-        )?;
-        apply(&mut self.past, &mut self.present, &turn)?;
-        Ok(turn)
+        let state = self.trail.present();
+        if state.dead() {
+            return Ok(Turn::Empty);
+        }
+        let found = first_turn(&self.roster, &mut self.woken, state, steps)?;
+        match found {
+            None => Ok(Turn::Quiet),
+            Some((place, turn)) => {
+                apply(
+                    &mut self.trail,
+                    &mut self.woken,
+                    &self.occurrences,
+                    place,
+                    &turn,
+                )?;
+                Ok(turn)
+            }
+        }
     }
 
     /// The place of the present state in the list of states.
     pub fn mark(&self) -> usize
         ensures { result ≡ length self.now.past }
     {
-        self.past.len()
+        self.trail.len()
     }
 
     /// Goes back to the state at the mark. Nogoods that were added since then stay.
@@ -112,7 +138,7 @@ impl<'p> Engine<'p> {
         ensures parts { KeepsParts self.old self.new }
         ensures states { states self.new ≡ take (mark + 1) (states self.old) }
     {
-        rewind(&mut self.past, &mut self.present, mark);
+        go_back(&mut self.trail, &mut self.woken, &self.occurrences, mark);
     }
 
     /// Adds a nogood at the next place. Want of memory leaves the engine as it was.
@@ -124,22 +150,80 @@ impl<'p> Engine<'p> {
         ensures states { KeepsStates self.old self.new }
         ensures unchanged { OnErr result (self.new.nogoods ≡ self.old.nogoods) }
     {
-        self.added.push(nogood)?;
+        self.woken.push()?;
+        let added = self.roster.add(nogood, &mut self.occurrences);
+        if added.is_err() {
+            self.woken.pop();
+            return Err(Memory);
+        }
         Ok(())
     }
 }
 
-/// Applies a turn: an atom leads on to the state that it cuts.
-fn apply(past: &mut Vec<State>, present: &mut State, turn: &Turn) -> Result<(), Memory>
-    requires { AreOf present.old (atoms_of turn.now) }
-    ensures counts { (n : ℕ) → HaveCount n (past.old.items ++ present.old ∷ []) → HaveCount n (past.new.items ++ present.new ∷ []) }
-    ensures present { OnOk result (present.new ≡ applied present.old turn.now) }
-    ensures states { Begins (past.old.items ++ present.old ∷ []) (past.new.items ++ present.new ∷ []) }
-    ensures past_stays { OnErr result (past.new.items ≡ past.old.items) }
-    ensures present_stays { OnErr result (present.new ≡ present.old) }
+/// Goes on to the state that is cut by the atoms, one after the other, and wakes the parts on their
+/// variables. Want of memory leaves some of them done.
+fn cut_each(
+    trail: &mut Trail,
+    woken: &mut Woken,
+    occurrences: &Occurrences,
+    atoms: &[Atom],
+) -> Result<(), Memory>
+    requires atoms { AreOf trail.old.present atoms.now }
+    requires lists { length occurrences.now ≡ length trail.old.present }
+    requires places { ArePlaces (length woken.old) occurrences.now }
+    ensures followed { IsFollowed occurrences.now woken.old trail.old.present woken.new trail.new.present }
+    ensures counts { (n : ℕ) → HaveCount n (all_of trail.old) → HaveCount n (all_of trail.new) }
+    ensures states { Begins (all_of trail.old) (all_of trail.new) }
+    ensures present { OnOk result (trail.new.present ≡ cut_all trail.old.present atoms.now) }
+{
+    for atom in atoms {
+        trail.cut(*atom)?;
+        woken.wake_each(occurrences.on(atom.var()));
+    }
+    Ok(())
+}
+
+/// Goes back to the state at the mark, and wakes the parts on each variable whose set is put back.
+fn go_back(trail: &mut Trail, woken: &mut Woken, occurrences: &Occurrences, mark: usize)
+    requires mark { mark ≤ length trail.old.past }
+    requires lists { length occurrences.now ≡ length trail.old.present }
+    requires places { ArePlaces (length woken.old) occurrences.now }
+    ensures followed { IsFollowed occurrences.now woken.old trail.old.present woken.new trail.new.present }
+    ensures states { all_of trail.new ≡ take (mark + 1) (all_of trail.old) }
+{
+    while trail.len() > mark {
+        let var = trail.back();
+        woken.wake_each(occurrences.on(var));
+    }
+}
+
+/// Applies the turn of the part at the place: an atom leads on to the state that it cuts, and its part
+/// rests until the parts on the atom's variable are woken. Want of memory leaves all as it was.
+fn apply(
+    trail: &mut Trail,
+    woken: &mut Woken,
+    occurrences: &Occurrences,
+    place: usize,
+    turn: &Turn,
+) -> Result<(), Memory>
+    requires atoms { AreOf trail.old.present (atoms_of turn.now) }
+    requires lists { length occurrences.now ≡ length trail.old.present }
+    requires there { place < length woken.old }
+    requires places { ArePlaces (length woken.old) occurrences.now }
+    ensures counts { (n : ℕ) → HaveCount n (all_of trail.old) → HaveCount n (all_of trail.new) }
+    ensures present { OnOk result (trail.new.present ≡ applied trail.old.present turn.now) }
+    ensures states { Begins (all_of trail.old) (all_of trail.new) }
+    ensures woken { OnOk result (woken.new ≡ woken_after woken.old occurrences.now place turn.now) }
+    ensures trail_stays { OnErr result (trail.new ≡ trail.old) }
+    ensures woken_stays { OnErr result (woken.new ≡ woken.old) }
 {
     match turn {
-        Turn::Atom(_, atom) => advance(past, present, &[*atom]),
+        Turn::Atom(_, given) => {
+            trail.cut(*given)?;
+            woken.rest(place);
+            woken.wake_each(occurrences.on(given.var()));
+            Ok(())
+        }
         Turn::Clash(_) | Turn::Quiet | Turn::Empty => Ok(()),
     }
 }

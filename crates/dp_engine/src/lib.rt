@@ -1,12 +1,16 @@
 // Propagation: the parts of a problem and nogoods take turns, until a clash or until all is quiet.
 #![tactic(auto)]
 
+mod change;
 mod engine;
 mod laws;
+mod occurrences;
 mod part_id;
+mod roster;
 mod search;
-mod states;
+mod trail;
 mod turn;
+mod woken;
 
 pub use dp_domain::{Atom, Memory, State, Steps};
 pub use dp_parts::Problem;

@@ -1,124 +1,41 @@
-// The search for the first turn, from the first part on.
+// The search for the first turn among the parts that are woken.
 
-ghost use Rattle.std.specs.Prelude.{◌≡◌, ◌^◌, ◌<◌, ◌+◌, ◌++◌, false, length, map, IfOk};
-ghost use Rattle.std.specs.Option.{option_map};
-ghost use Rattle.dp_base.specs.Lists.{Each};
-ghost use Rattle.dp_domain.specs.Faces.{Covers};
-ghost use Rattle.dp_domain.specs.States.{AreOf, is_dead};
-ghost use Rattle.dp_parts.specs.Problems.{posed};
-ghost use Rattle.dp_engine.specs.Placed.{of_constraints, of_nogoods, turn_order};
-ghost use Rattle.dp_engine.specs.Searches.{first_found, first_told};
-ghost use Rattle.dp_engine.specs.Turns.{told, turn_at};
+ghost use Rattle.std.specs.Prelude.{◌≡◌, ◌+◌, ◌≤◌, false, length, IfOk, OnErr};
+ghost use Rattle.dp_domain.specs.States.{is_dead};
+ghost use Rattle.dp_engine.specs.Placed.{AreSound};
+ghost use Rattle.dp_engine.specs.Rosters.{all_placed};
+ghost use Rattle.dp_engine.specs.Woken.{IsSearched, Rest, owed_of};
 
-use crate::{PartId, Turn};
-use dp_domain::{Found, Memory, Rule, State, Steps};
-use dp_parts::Problem;
-use dp_rule_clause::Nogood;
+use crate::Turn;
+use crate::roster::Roster;
+use crate::woken::Woken;
+use dp_domain::{Memory, State, Steps};
 use std::sync::ledger::Ledger;
 
-/// The turn at the state: Empty where it is dead; else that of the first part that has one, in the
-/// order of the constraints, then of the nogoods; else Quiet. Each part that is asked ticks once.
-pub fn turn_at<L: Ledger>(
-    problem: &Problem,
-    given: &[Nogood],
-    added: &[Nogood],
+/// The turn of the first part that has one, with the part's place. Woken parts alone are asked, in order, and those without a turn
+/// are put to rest.
+pub fn first_turn<L: Ledger>(
+    roster: &Roster,
+    woken: &mut Woken,
     state: &State,
     steps: &mut Steps<L>,
-) -> Result<Turn, Memory>
-    requires state { length state.now ≡ length problem.now.initial }
-    requires given { Each (AreOf problem.now.initial) given.now }
-    requires added { Each (AreOf problem.now.initial) added.now }
-    requires few { length (given.now ++ added.now) < 2 ^ 32 }
-    ensures { IfOk result (λ turn. turn ≡ turn_at (turn_order (posed problem.now) (given.now ++ added.now)) state.now) }
-{
-    if state.dead() {
-        return Ok(Turn::Empty);
-    }
-    let turn = model_turn(problem, state, steps)?;
-    if let Some(turn) = turn {
-        return Ok(turn);
-    }
-    let turn = nogood_turn(0, given, state, steps)?;
-    if let Some(turn) = turn {
-        return Ok(turn);
-    }
-    let turn = nogood_turn(given.len(), added, state, steps)?;
-    match turn {
-        Some(turn) => Ok(turn),
-        None => Ok(Turn::Quiet),
-    }
-}
-
-/// The turn of the first part of a constraint that has one.
-fn model_turn<L: Ledger>(
-    problem: &Problem,
-    state: &State,
-    steps: &mut Steps<L>,
-) -> Result<Option<Turn>, Memory>
-    requires state { length state.now ≡ length problem.now.initial }
+) -> Result<Option<(usize, Turn)>, Memory>
+    requires count { length woken.old ≡ length (all_placed roster.now) }
+    requires sound { AreSound (length state.now) (all_placed roster.now) }
     requires alive { is_dead state.now ≡ false }
-    ensures { IfOk result (λ turn. turn ≡ first_told (of_constraints 0 (posed problem.now).constraints) state.now) }
+    requires rest { Rest (all_placed roster.now) woken.old state.now }
+    ensures count { length woken.new ≡ length woken.old }
+    ensures rest { Rest (all_placed roster.now) woken.new state.now }
+    ensures more { steps.old ≤ steps.new }
+    ensures searched { IfOk result (IsSearched (all_placed roster.now) state.now woken.new (steps.old + owed_of woken.old) (steps.new + owed_of woken.new)) }
+    ensures counted { OnErr result (steps.new + owed_of woken.new ≤ (steps.old + owed_of woken.old) + 1) }
 {
-    for constraint in 0..problem.constraint_count() {
-        let found = first_found(0, problem.parts_of(constraint), state, steps)?;
-        if let Some((part, found)) = found {
-            let id = PartId::Model {
-                constraint: constraint as u32,
-                part,
-            };
-            return Ok(Some(told(id, found)));
+    while let Some(place) = woken.first() {
+        let turn = roster.turn(place, state, steps)?;
+        match turn {
+            Some(turn) => return Ok(Some((place, turn))),
+            None => woken.rest(place),
         }
     }
     Ok(None)
-}
-
-/// The turn of the first of the nogoods that has one, where the first of them stands at the place.
-fn nogood_turn<L: Ledger>(
-    place: usize,
-    nogoods: &[Nogood],
-    state: &State,
-    steps: &mut Steps<L>,
-) -> Result<Option<Turn>, Memory>
-    requires nogoods { Each (AreOf state.now) nogoods.now }
-    requires few { place + length nogoods.now < 2 ^ 32 }
-    requires alive { is_dead state.now ≡ false }
-    ensures { IfOk result (λ turn. turn ≡ first_told (of_nogoods place nogoods.now) state.now) }
-{
-    let found = first_found(place, nogoods, state, steps)?;
-    match found {
-        Some((place, found)) => Ok(Some(told(PartId::Nogood(place), found))),
-        None => Ok(None),
-    }
-}
-
-/// The first of the parts that has a turn, by its place, and that turn, where the first part stands
-/// at the place `from`.
-fn first_found<R: Rule, L: Ledger>(
-    from: usize,
-    parts: &[R],
-    state: &State,
-    steps: &mut Steps<L>,
-) -> Result<Option<(u32, Found)>, Memory>
-    requires covers { Each (λ q. Covers (R.face q).scope state.now) parts.now }
-    requires few { from + length parts.now < 2 ^ 32 }
-    requires alive { is_dead state.now ≡ false }
-    ensures { IfOk result (λ found. found ≡ first_found from (map (λ q. R.face q) parts.now) state.now) }
-{
-    for place in 0..parts.len() {
-        let found = parts[place].next(state, steps)?;
-        if let Some(found) = found {
-            return Ok(Some(((from + place) as u32, found)));
-        }
-    }
-    Ok(None)
-}
-
-/// What a part gives, told with the part's place.
-fn told(id: PartId, found: Found) -> Turn
-    ensures { result ≡ told id found }
-{
-    match found {
-        Found::Clash => Turn::Clash(id),
-        Found::Atom(atom) => Turn::Atom(id, atom),
-    }
 }

@@ -1,4 +1,4 @@
-ghost use Rattle.std.specs.Prelude.{◌≡◌, ◌^◌, ◌<◌, ◌∷◌, [], nat_eq, length, codes, IfOk, IsTrue, OnOk};
+ghost use Rattle.std.specs.Prelude.{◌≡◌, ◌^◌, ◌<◌, ◌≤◌, ◌∷◌, [], nat_eq, length, codes, IfOk, IsTrue, OnOk};
 ghost use Rattle.std.specs.Cmp.Lexicographic.{pointwise};
 ghost use Rattle.indexmap.specs.IndexMap.{insert_entry};
 ghost use Rattle.dp_base.specs.Lists.{Each};
@@ -241,14 +241,33 @@ fn turn_of(row: Row) -> Result<Turn, Memory> {
     }
 }
 
+// The next turn. The states before the present one are no fewer than before.
+fn steps_on<L: Ledger>(engine: &mut Engine, steps: &mut Steps<L>) -> Result<Turn, Memory>
+    ensures parts { KeepsParts engine.old engine.new }
+    ensures longer { length engine.old.past ≤ length engine.new.past }
+{
+    engine.step(steps)
+}
+
+// The same of atoms that are assumed.
+fn assumes(engine: &mut Engine, atoms: &[Atom]) -> Result<bool, Memory>
+    requires { AreOf engine.old.problem.initial atoms.now }
+    ensures parts { KeepsParts engine.old engine.new }
+    ensures longer { length engine.old.past ≤ length engine.new.past }
+{
+    engine.assume(atoms)
+}
+
 fn takes_counted<L: Ledger>(engine: &mut Engine, rows: &[Row], blank: Blank) -> Result<bool, Memory>
     requires name { blank.name ≡ L.name }
     requires parts { blank.parts ≡ L.parts }
     requires some { 0 < blank.parts }
+    ensures parts { KeepsParts engine.old engine.new }
+    ensures longer { length engine.old.past ≤ length engine.new.past }
 {
     let mut steps = Steps::<L>::new(blank);
     for row in rows {
-        let turn = engine.step(&mut steps)?;
+        let turn = steps_on(engine, &mut steps)?;
         let wanted = turn_of(*row)?;
         if turn != wanted {
             return Ok(false);
@@ -258,7 +277,10 @@ fn takes_counted<L: Ledger>(engine: &mut Engine, rows: &[Row], blank: Blank) -> 
 }
 
 // Whether the next turns are these, by a counter of their own.
-fn takes(engine: &mut Engine, rows: &[Row]) -> Result<bool, Memory> {
+fn takes(engine: &mut Engine, rows: &[Row]) -> Result<bool, Memory>
+    ensures parts { KeepsParts engine.old engine.new }
+    ensures longer { length engine.old.past ≤ length engine.new.past }
+{
     takes_counted::<Brand>(engine, rows, Blank::new(1))
 }
 
@@ -393,5 +415,47 @@ fn back_to_a_mark_and_a_nogood_more(rt: HostRuntime) -> Result<(), Fail> {
         Row::Quiet,
     ];
     assert!(rt; runs_after(rt.alloc(), &given, &added, &[(0, Op::Le, 4)], &wanted)?);
+    Ok(())
+}
+
+// Goes on by an atom, and answers whether the next turns are these.
+fn goes_on(alloc: Global, engine: &mut Engine, used: &[Used], rows: &[Row]) -> Result<bool, Memory>
+    requires { length engine.old.problem.initial ≡ 2 }
+    ensures parts { KeepsParts engine.old engine.new }
+    ensures longer { length engine.old.past ≤ length engine.new.past }
+{
+    let atoms = atoms_of(alloc, used)?;
+    let _alive = assumes(engine, atoms.as_slice())?;
+    takes(engine, rows)
+}
+
+// Whether these turns follow the first atom and those the second, and back to where it was.
+fn goes_and_comes(
+    alloc: Global,
+    engine: &mut Engine,
+    first: (&[Used], &[Row]),
+    second: (&[Used], &[Row]),
+) -> Result<bool, Memory>
+    requires { length engine.old.problem.initial ≡ 2 }
+    ensures { KeepsParts engine.old engine.new }
+{
+    let mark = engine.mark();
+    let before = goes_on(alloc, engine, first.0, first.1)?;
+    let after = goes_on(alloc, engine, second.0, second.1)?;
+    engine.undo(mark);
+    Ok(before && after)
+}
+
+#[test]
+fn a_nogood_waits_again_after_its_turn_is_undone(rt: HostRuntime) -> Result<(), Fail> {
+    let alloc = rt.alloc();
+    let problem = without_turns(alloc)?;
+    let nogoods = [nogood_of(alloc, &[(0, Op::Ge, 1), (0, Op::Le, 4), (1, Op::Ge, 1)])?];
+    let mut engine = Engine::new(alloc, &problem, &nogoods)?;
+    let waits: (&[Used], &[Row]) = (&[(1, Op::Ge, 1)], &[Row::Quiet]);
+    let turns = [Row::Gives(PartId::Nogood(0), (0, Op::Ge, 5)), Row::Quiet];
+    let gives: (&[Used], &[Row]) = (&[(0, Op::Ge, 1)], &turns);
+    assert!(rt; goes_and_comes(alloc, &mut engine, waits, gives)?);
+    assert!(rt; goes_and_comes(alloc, &mut engine, waits, gives)?);
     Ok(())
 }

@@ -1,11 +1,41 @@
-use Rattle.std.proofs.Common.{length}
+use Rattle.std.proofs.Common.{◌+◌, length, sym, ◌∙◌, subst}
+use Rattle.dp_parts.specs.Problems.{posed}
+use Rattle.dp_engine.specs.Placed.{turn_order}
+use Rattle.dp_engine.specs.Trails.{all_of}
+use Rattle.dp_engine.specs.Woken.{ArePlaces}
+use Rattle.dp_engine.proofs.PlacedLaws.{problem-sound}
+use Rattle.dp_engine.proofs.StateSteps.{counted-first, counted-last}
+use Rattle.dp_engine.proofs.StepLaws.{places-below}
+use Rattle.dp_engine.proofs.TrackedLaws.{tracked-moved}
+use Rattle.dp_engine.proofs.WokenLaws.{followed-then, rest-followed}
 use Rattle.dp_engine.proofs.engine.Engine.assume.Goals as goal
 
+pub cut_each-cut-requires-clause-places : goal.cut_each-cut-requires-clause-places
+cut_each-cut-requires-clause-places c =
+    subst (λ n. ArePlaces n c.self.inside.occurrences) (sym c.self.invariant.count) (places-below (length c.self.inside.problem.now.initial) (turn_order (posed c.self.inside.problem.now) c.self.inside.roster.nogoods) c.self.inside.occurrences c.self.invariant.index)
+
+pub go_back-requires-clause-lists : goal.go_back-requires-clause-lists
+go_back-requires-clause-lists c =
+    c.self.invariant.index.count ∙ sym (c.cut_each-cut.ensures.followed.sets ∙ counted-last c.self.inside.trail.past c.self.inside.trail.present (length c.self.inside.problem.now.initial) c.self.invariant.engine.states)
+
+pub go_back-requires-clause-places : goal.go_back-requires-clause-places
+go_back-requires-clause-places c =
+    subst (λ n. ArePlaces n c.self.inside.occurrences) (sym (c.cut_each-cut.ensures.followed.bits ∙ c.self.invariant.count)) (places-below (length c.self.inside.problem.now.initial) (turn_order (posed c.self.inside.problem.now) c.self.inside.roster.nogoods) c.self.inside.occurrences c.self.invariant.index)
+
+pub invariant_of-self : goal.invariant_of-self
+invariant_of-self c =
+    tracked-moved c.self.inside.problem.now c.self.inside.roster c.self.inside.occurrences c.self.inside.trail.past c.go_back.new.trail.past c.self.inside.trail.present c.go_back.new.trail.present c.self.inside.woken c.go_back.new.woken
+    c.self.invariant
+    (counted-first (all_of c.cut_each-cut.new.trail) (all_of c.go_back.new.trail) (c.len-mark.result + 1) (length c.self.inside.problem.now.initial) c.go_back.ensures.states (c.cut_each-cut.ensures.counts (length c.self.inside.problem.now.initial) c.self.invariant.engine.states))
+    (c.go_back.ensures.followed.bits ∙ c.cut_each-cut.ensures.followed.bits)
+    (rest-followed (length c.self.inside.problem.now.initial) (turn_order (posed c.self.inside.problem.now) c.self.inside.roster.nogoods) c.self.inside.occurrences c.self.inside.woken c.go_back.new.woken c.self.inside.trail.present c.go_back.new.trail.present
+    (problem-sound c.self.inside.problem.now c.self.inside.roster.nogoods c.self.invariant.engine.problem c.self.invariant.engine.nogoods) c.self.invariant.index
+    (followed-then c.self.inside.occurrences c.self.inside.woken c.cut_each-cut.new.woken c.go_back.new.woken c.self.inside.trail.present c.cut_each-cut.new.trail.present c.go_back.new.trail.present c.cut_each-cut.ensures.followed c.go_back.ensures.followed)
+    c.self.invariant.rest)
+
 pub invariant_of-self-2 : goal.invariant_of-self-2
-invariant_of-self-2 c = record {
-  problem = c.self.invariant.problem;
-  few = c.self.invariant.few;
-  nogoods = c.self.invariant.nogoods;
-  states = c.advance.ensures.counts (length c.self.inside.problem.now.initial) c.self.invariant.states;
-  owed = c.self.invariant.owed;
-}
+invariant_of-self-2 c =
+    tracked-moved c.self.inside.problem.now c.self.inside.roster c.self.inside.occurrences c.self.inside.trail.past c.cut_each-cut.new.trail.past c.self.inside.trail.present c.cut_each-cut.new.trail.present c.self.inside.woken c.cut_each-cut.new.woken
+    c.self.invariant (c.cut_each-cut.ensures.counts (length c.self.inside.problem.now.initial) c.self.invariant.engine.states) c.cut_each-cut.ensures.followed.bits
+    (rest-followed (length c.self.inside.problem.now.initial) (turn_order (posed c.self.inside.problem.now) c.self.inside.roster.nogoods) c.self.inside.occurrences c.self.inside.woken c.cut_each-cut.new.woken c.self.inside.trail.present c.cut_each-cut.new.trail.present
+    (problem-sound c.self.inside.problem.now c.self.inside.roster.nogoods c.self.invariant.engine.problem c.self.invariant.engine.nogoods) c.self.invariant.index c.cut_each-cut.ensures.followed c.self.invariant.rest)
