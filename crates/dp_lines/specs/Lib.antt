@@ -8,9 +8,11 @@ pub mod Lenient
 pub mod Lines
 pub mod Logs
 pub mod Parts
+pub mod Pieces
 pub mod RawLines
 pub mod Readers
 pub mod Runs
+pub mod SoFar
 pub mod Spelling
 pub mod Standing
 pub mod Words
