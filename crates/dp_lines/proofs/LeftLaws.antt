@@ -4,7 +4,7 @@ use Rattle.std.proofs.Common.{refl, sym, ◌∙◌, ap, subst, arith}
 use Rattle.std.proofs.lemmas.List.{append-nil}
 use Rattle.dp_lines.specs.Lines.{Lines, judged}
 use Rattle.dp_lines.specs.RawLines.{Raw, raw_lines, size}
-use Rattle.dp_lines.specs.Readers.{State, after, answer_by, answer_of, decided, fed, left, step_from, step_of}
+use Rattle.dp_lines.specs.Readers.{IsStanding, State, after, answer_by, answer_of, decided, fed, left, standing, step_from, step_of}
 use Rattle.dp_lines.specs.Standing.{Leaves}
 use Rattle.dp_lines.specs.declared.judge.Judged.{Judged}
 use Rattle.dp_lines.specs.declared.judge.Judged.TheVariants.{Blank, Given, Refused as RefusedLine}
@@ -14,7 +14,7 @@ use Rattle.dp_lines.specs.declared.refusal.Limits.{Limits}
 use Rattle.dp_lines.specs.declared.step.First.{First}
 use Rattle.dp_lines.specs.declared.step.First.TheVariants.{Line as LineFirst, Refusal, Nothing}
 use Rattle.dp_lines.specs.declared.step.Step.{Step}
-use Rattle.dp_lines.proofs.StepLaws.{counts}
+use Rattle.dp_lines.proofs.StepLaws.{count_led}
 
 -- ---- what is left
 
@@ -26,26 +26,22 @@ same_left s = ap (λ (t : List ℕ). left (record s { held = t })) (append-nil s
 pub left_now : (s now : State) (change : Lines → Lines) → Leaves s change now → left s ≡ change (left now)
 left_now s now change h = sym (same_left s) ∙ h [] (λ e. refl) ∙ ap change (same_left now)
 
--- ---- how many lines are held
-
-no_more : (used : ℕ) (held : List ℕ) → length (raw_lines (drop used held ++ [])) ≡ length (raw_lines (drop used held))
-no_more used held = ap (λ (t : List ℕ). length (raw_lines t)) (append-nil (drop used held))
+-- ---- how many lines are left
 
 asked : (s : State) (refusal : Option LineRefusal) → s.refusal ≡ refusal → refusal ≡ None →
-    step_of s ≡ step_from s.limits s.ended s.passed s.count 0 (raw_lines s.held)
+    step_of s ≡ step_from s.limits s.ended s.passed s.count 0 (raw_lines (standing s))
 asked s refusal e none = rw (e ∙ none) refl
 
--- a call that asks passes lines, and holds those that it does not pass
-pub ask_counts : (s : State) → s.refusal ≡ None → s.count + length (raw_lines s.held) ≡ (after s).count + length (raw_lines (after s).held)
-ask_counts s none =
-    let e = asked s s.refusal refl none in
-    let k = counts s.limits s.ended s.passed s.count 0 s.held [] (raw_lines s.held) refl (λ h. refl) in
-    let before = no_more 0 s.held in
-    let step = step_from s.limits s.ended s.passed s.count 0 (raw_lines s.held) in
-    let behind = no_more step.used s.held in
-    let moved : s.count + length (raw_lines s.held) ≡ step.count + length (raw_lines (drop step.used s.held)) =
-    sym (ap (λ n. s.count + n) before) ∙ k ∙ ap (λ n. step.count + n) behind in
-    moved ∙ sym (ap (λ (t : Step). t.count + length (raw_lines (drop t.used s.held))) e)
+-- nothing more comes
+same_standing : (s : State) → standing (fed s []) ≡ standing s
+same_standing s = ap (λ (t : List ℕ). standing (record s { held = t })) (append-nil s.held)
+
+-- a call that asks passes lines, and leaves those that it does not pass
+pub ask_counts : (s : State) → IsStanding s → s.refusal ≡ None → s.count + length (raw_lines (standing s)) ≡ (after s).count + length (raw_lines (standing (after s)))
+ask_counts s h none =
+    ap (λ (t : List ℕ). s.count + length (raw_lines t)) (sym (same_standing s))
+    ∙ count_led s [] h (λ e. refl)
+    ∙ ap (λ (t : List ℕ). (after s).count + length (raw_lines t)) (same_standing (after s))
 
 abbrev IfLine : First → Type 0 → Type 0
 IfLine (LineFirst line) fact = fact
@@ -83,11 +79,10 @@ line_first (LineFirst l) count n line fact e h = h
 line_first (Refusal r) count n line fact e h = absurd cc
 line_first Nothing count n line fact e h = absurd cc
 
--- a line that is given is passed, so fewer are held
-pub fewer_held : (s : State) (n : ℕ) (line : Line) → s.refusal ≡ None → Ok (Some (n, line)) ≡ answer_of s → length (raw_lines (after s).held) < length (raw_lines s.held)
-fewer_held s n line none e =
-    let step = step_from s.limits s.ended s.passed s.count 0 (raw_lines s.held) in
+-- a line that is given is passed, so fewer are left
+pub fewer_held : (s : State) (n : ℕ) (line : Line) → IsStanding s → s.refusal ≡ None → Ok (Some (n, line)) ≡ answer_of s → length (raw_lines (standing (after s))) < length (raw_lines (standing s))
+fewer_held s n line h none e =
     let same = asked s s.refusal refl none in
     let more : s.count < (step_of s).count = line_first (step_of s).first (step_of s).count n line (s.count < (step_of s).count) e
-    (subst (λ (t : Step). IfLine t.first (s.count < t.count)) (sym same) (grows s.limits s.ended s.passed s.count 0 (raw_lines s.held))) in
-    let k = ask_counts s none in omega (arith, k, more)
+    (subst (λ (t : Step). IfLine t.first (s.count < t.count)) (sym same) (grows s.limits s.ended s.passed s.count 0 (raw_lines (standing s)))) in
+    let k = ask_counts s h none in omega (arith, k, more)

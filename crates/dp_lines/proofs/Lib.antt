@@ -1,9 +1,12 @@
 pub mod AllowedLaws
 pub mod FigureLaws
 pub mod FlawLaws
+pub mod HeldLaws
 pub mod LeftLaws
 pub mod LenientLaws
+pub mod LongLaws
 pub mod ManyLaws
+pub mod OverlongLaws
 pub mod RawLaws
 pub mod ReadBackLaws
 pub mod ReadingLaws

@@ -6,7 +6,7 @@ use Rattle.std.proofs.lemmas.List.{append-nil, drop_all, drop-append-le, take-ap
 use Rattle.dp_lines.specs.Kept.{IsFirst, begins_whole, has_no_feed, is_no_feed}
 use Rattle.dp_lines.specs.RawLines.{Raw, raw_lines, size, with_byte}
 
-both : (a b : Bool) → (a && b) ≡ true → (a ≡ true) × (b ≡ true)
+pub both : (a b : Bool) → (a && b) ≡ true → (a ≡ true) × (b ≡ true)
 both true b e = (refl, e)
 both false b e = absurd cc
 
@@ -37,7 +37,7 @@ prefix_whole (b ∷ s) le =
 abbrev cut_at_feed : ℕ → List ℕ → List Raw
 cut_at_feed n s = record { bytes = take n s; fed = true } ∷ raw_lines (drop (n + 1) s)
 
-feed_step : (b : ℕ) (s : List ℕ) (c : Bool) → not (eqb b 10) ≡ c → raw_lines (b ∷ s) ≡ cond c (with_byte b (raw_lines s)) (record { bytes = []; fed = true } ∷ raw_lines s)
+pub feed_step : (b : ℕ) (s : List ℕ) (c : Bool) → not (eqb b 10) ≡ c → raw_lines (b ∷ s) ≡ cond c (with_byte b (raw_lines s)) (record { bytes = []; fed = true } ∷ raw_lines s)
 feed_step b s c e =
     elim (cases_Bool (eqb b 10)) [
       | inl is ↦ let f : false ≡ c = ap not (sym is) ∙ e in rw (is, ← f) refl
@@ -65,7 +65,7 @@ raw_unfed (b ∷ (d ∷ s)) h some =
     let p = both (is_no_feed b) (has_no_feed (d ∷ s)) h in
     feed_step b (d ∷ s) true p.0 ∙ ap (λ (rs : List Raw). with_byte b rs) (raw_unfed (d ∷ s) p.1 (omega arith))
 
-fed_size : (s : List ℕ) (n : ℕ) → n < length s → size (record { bytes = take n s; fed = true }) ≡ n + 1
+pub fed_size : (s : List ℕ) (n : ℕ) → n < length s → size (record { bytes = take n s; fed = true }) ≡ n + 1
 fed_size s n lt = let whole : n ≤ length s = omega arith in ap (λ (k : ℕ). k + 1) (length-take-le n s whole)
 
 -- what is held begins with a whole line that a line feed ends
@@ -176,4 +176,12 @@ cut_is t more raw raws ended e whole none =
           let unfed = unfed_first t raw raws le e in
           let over : ended ≡ true = sym (ap (λ (f : Bool). f || ended) unfed) ∙ whole in
           cut_at_end t more raw raws le e (none over)
+    ]
+
+-- where no line is whole, no byte is a line feed
+pub no_whole_unfed : (ended : Bool) (t : List ℕ) → begins_whole ended (raw_lines t) ≡ false → has_no_feed t ≡ true
+no_whole_unfed ended t e =
+    elim (cases_lt (prefix_len is_no_feed t) (length t)) [
+      | inl lt ↦ let w : true ≡ false = sym (ap (begins_whole ended) (raw_fed t lt)) ∙ e in absurd cc
+      | inr le ↦ prefix_whole t le
     ]

@@ -7,7 +7,7 @@ use Rattle.dp_base.specs.Lists.{Each}
 use Rattle.dp_lines.specs.Lines.{Lines, lines, lines_behind, no_lines, with_line}
 use Rattle.dp_lines.specs.Logs.{AreNext, Holds, IsNext, all_of, asked_for, behind_line, behind_log, log_text}
 use Rattle.dp_lines.specs.RawLines.{Raw, raw_lines}
-use Rattle.dp_lines.specs.Readers.{State, after, after_step, answer_by, answer_of, decided, fed, fresh, left, step_from, step_of, step_unless}
+use Rattle.dp_lines.specs.Readers.{State, after, after_step, answer_by, answer_of, decided, fed, fresh, left, standing, stands_for, step_from, step_of, step_unless}
 use Rattle.dp_lines.specs.Runs.{Call, IsInOrder, Run, fed_by, run, with_all, with_first}
 use Rattle.dp_lines.specs.Spelling.{fields_text, line_text}
 use Rattle.dp_lines.specs.declared.judge.Judged.{Judged}
@@ -16,6 +16,7 @@ use Rattle.dp_lines.specs.declared.refusal.LineRefusal.{LineRefusal}
 use Rattle.dp_lines.specs.declared.refusal.Limits.{Limits}
 use Rattle.dp_lines.specs.declared.step.First.TheVariants.{Line as LineFirst}
 use Rattle.dp_lines.specs.declared.step.Step.{Step}
+use Rattle.dp_lines.proofs.HeldLaws.{length_standing, stands_whole}
 use Rattle.dp_lines.proofs.RoundTrip.{judged_again, line_cut, log_again}
 use Rattle.dp_lines.proofs.RunLaws.{run_fresh}
 
@@ -41,8 +42,9 @@ first_step limits ended passed count line raws fits within =
 
 next_step : (s : State) (line : Line) (rest : List ℕ) → IsNext s line rest → step_of s ≡ given_step s line
 next_step s line rest h =
-    ap (λ (r : Option LineRefusal). step_unless r s.count (step_from s.limits s.ended s.passed s.count 0 (raw_lines s.held))) h.unrefused
-    ∙ ap (λ (t : List ℕ). step_from s.limits s.ended s.passed s.count 0 (raw_lines t)) h.begins
+    ap (λ (r : Option LineRefusal). step_unless r s.count (step_from s.limits s.ended s.passed s.count 0 (raw_lines (standing s)))) h.unrefused
+    ∙ ap (λ (n : ℕ). step_from s.limits s.ended s.passed s.count 0 (raw_lines (stands_for s.limits.line n s.held))) h.uncounted
+    ∙ ap (λ (t : List ℕ). step_from s.limits s.ended s.passed s.count 0 (raw_lines t)) (stands_whole s.limits.line s.held ∙ h.begins)
     ∙ ap (λ (raws : List Raw). step_from s.limits s.ended s.passed s.count 0 raws) (line_cut line rest h.fits.0)
     ∙ first_step s.limits s.ended s.passed s.count line (raw_lines rest) h.fits h.within
 
@@ -57,11 +59,17 @@ next_state s line rest h =
     ∙ ap (λ (t : List ℕ). record s { count = s.count + 1; passed = s.passed + n; held = t; refusal = None }) behind
     ∙ ap (λ (r : Option LineRefusal). record s { count = s.count + 1; passed = s.passed + n; held = rest; refusal = r }) (sym h.unrefused)
 
-pub fed_line : (s : State) (line : Line) (rest : List ℕ) → s.held ≡ [] → s.refusal ≡ None → Holds s.limits line → s.passed + length (line_text line) ≤ s.limits.total →
+no_length : (t : List ℕ) → length t ≡ 0 → t ≡ []
+no_length [] e = refl
+no_length (b ∷ t) e = absurd (omega (arith, e))
+
+pub fed_line : (s : State) (line : Line) (rest : List ℕ) → standing s ≡ [] → s.refusal ≡ None → Holds s.limits line → s.passed + length (line_text line) ≤ s.limits.total →
     answer_of (fed s (line_text line ++ rest)) ≡ Ok (Some (s.count + 1, line))
 fed_line s line rest empty unrefused fits within =
+    let none : length s.held + s.beyond ≡ 0 = sym (length_standing s.limits.line s.beyond s.held) ∙ ap (λ (t : List ℕ). length t) empty in
+    let bare : s.held ≡ [] = no_length s.held (omega (arith, none)) in
     next_line (fed s (line_text line ++ rest)) line rest
-    (record { begins = ap (λ (t : List ℕ). t ++ (line_text line ++ rest)) empty; unrefused = unrefused; fits = fits; within = within })
+    (record { begins = ap (λ (t : List ℕ). t ++ (line_text line ++ rest)) bare; uncounted = omega (arith, none); unrefused = unrefused; fits = fits; within = within })
 
 -- ---- a log by a reader, line by line
 
@@ -85,13 +93,14 @@ log_asked s (line ∷ log) rest h =
     let more : List ℕ = log_text log ++ rest in
     let next : IsNext s line more = record {
       begins = h.begins ∙ ap (λ (t : List ℕ). t ++ rest) joined ∙ append_assoc (line_text line) (log_text log) rest;
+      uncounted = h.uncounted;
       unrefused = h.unrefused;
       fits = h.fits.0;
       within = here;
     } in
     let s1 : State = behind_line s line more in
     let rest_run : run (asked_for log) s1 ≡ given_run s1 log rest =
-    log_asked s1 log rest (record { begins = refl; unrefused = h.unrefused; fits = h.fits.1; within = later }) in
+    log_asked s1 log rest (record { begins = refl; uncounted = h.uncounted; unrefused = h.unrefused; fits = h.fits.1; within = later }) in
     let c : s.count + 1 + length log ≡ s.count + suc (length log) = omega arith in
     let p : s.passed + length (line_text line) + length (log_text log) ≡ s.passed + length (log_text (line ∷ log)) = omega (arith, z) in
     ap (λ (step : Step). with_first step.first step.count (run (asked_for log) (after s))) (next_step s line more next)

@@ -22,10 +22,12 @@ pub record IsFirst (ended : Bool) (held : List ℕ) (raw : Raw) : Type 0 where
   pub some : 0 < size raw
   pub within : size raw ≤ length held
 
--- Of the bytes, those before `start` are taken, and the next `clear` are no line feeds.
-pub record IsKept (bytes : List ℕ) (start clear count passed : ℕ) : Type 0 where
+-- Of the bytes, those before `start` are taken, and the next `clear` are no line feeds. Where others were counted, these
+-- are as many as a line may have.
+pub record IsKept (bytes : List ℕ) (start clear count passed beyond limit : ℕ) : Type 0 where
   pub taken : start ≤ length bytes
   pub cleared : clear ≤ length (drop start bytes)
   pub no_feed : has_no_feed (take clear (drop start bytes)) ≡ true
   pub lines : count ≤ passed
-  pub small : passed + length (drop start bytes) ≤ 2 ^ 62
+  pub small : passed + length (drop start bytes) + beyond ≤ 2 ^ 62
+  pub full : 0 < beyond → clear ≡ limit

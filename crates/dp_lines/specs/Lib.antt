@@ -7,6 +7,7 @@ pub mod Kept
 pub mod Lenient
 pub mod Lines
 pub mod Logs
+pub mod Overlong
 pub mod Parts
 pub mod Pieces
 pub mod RawLines

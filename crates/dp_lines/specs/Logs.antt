@@ -22,9 +22,11 @@ Holds limits line = IsAllowed line × (length (fields_text line) ≤ limits.line
 abbrev pub all_of : List Line → Lines
 all_of log = record { given = enumerate_from 1 log; refusal = None }
 
--- The reader holds the spelling of the line, then these bytes. Its limits hold the line, and it has refused nothing.
+-- The reader holds the spelling of the line, then these bytes, and has counted no others. Its limits hold the line, and it
+-- has refused nothing.
 pub record IsNext (s : State) (line : Line) (rest : List ℕ) : Type 0 where
   pub begins : s.held ≡ line_text line ++ rest
+  pub uncounted : s.beyond ≡ 0
   pub unrefused : s.refusal ≡ None
   pub fits : Holds s.limits line
   pub within : s.passed + length (line_text line) ≤ s.limits.total
@@ -36,6 +38,7 @@ behind_line s line rest = record s { count = s.count + 1; passed = s.passed + le
 -- The same of all lines of a log.
 pub record AreNext (s : State) (log : List Line) (rest : List ℕ) : Type 0 where
   pub begins : s.held ≡ log_text log ++ rest
+  pub uncounted : s.beyond ≡ 0
   pub unrefused : s.refusal ≡ None
   pub fits : Each (Holds s.limits) log
   pub within : s.passed + length (log_text log) ≤ s.limits.total

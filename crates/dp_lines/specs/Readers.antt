@@ -1,5 +1,6 @@
 -- A reader of lines that is fed a text in pieces: what it keeps, and the lines that this stands for.
-use Rattle.std.specs.Prelude.{ℕ, ◌+◌, Bool, true, false, ◌||◌, if◌then◌else◌, Option, Some, None, Result, Ok, Err, List, [], ◌∷◌, ◌++◌, length, drop}
+use Rattle.std.specs.Prelude.{◌≡◌, ℕ, ◌+◌, ◌-◌, ◌<◌, ◌≤◌, Bool, true, false, ◌||◌, if◌then◌else◌, Option, Some, None, Result, Ok, Err, List, [], ◌∷◌, ◌++◌, length, take, drop, replicate}
+use Rattle.dp_lines.specs.Kept.{has_no_feed}
 use Rattle.dp_lines.specs.Lines.{Lines, judged, lines_behind, refused}
 use Rattle.dp_lines.specs.RawLines.{Raw, raw_lines, size}
 use Rattle.dp_lines.specs.declared.line.Line.{Line}
@@ -13,19 +14,20 @@ use Rattle.dp_lines.specs.declared.judge.Judged.TheVariants.{Blank, Given, Refus
 use Rattle.dp_lines.specs.declared.refusal.LineFault.{LineFault}
 use Rattle.dp_lines.specs.declared.refusal.LineFault.TheVariants.{Refused}
 
--- How many lines and bytes were passed, the bytes that no line has taken, whether the text has ended, and the refusal
--- that was answered.
+-- How many lines and bytes were passed, the bytes that are held of those that no line has taken, how many were counted
+-- behind the first of them and are not held, whether the text has ended, and the refusal that was answered.
 pub record State : Type 0 where
   pub limits : Limits
   pub count : ℕ
   pub passed : ℕ
   pub held : List ℕ
+  pub beyond : ℕ
   pub ended : Bool
   pub refusal : Option LineRefusal
 
 -- nothing was fed
 abbrev pub fresh : Limits → State
-fresh limits = record { limits = limits; count = 0; passed = 0; held = []; ended = false; refusal = None }
+fresh limits = record { limits = limits; count = 0; passed = 0; held = []; beyond = 0; ended = false; refusal = None }
 
 -- the piece stands behind what is held
 abbrev pub fed : State → List ℕ → State
@@ -33,11 +35,31 @@ fed s piece = record s { held = s.held ++ piece }
 
 -- how many bytes were fed
 abbrev pub total : State → ℕ
-total s = s.passed + length s.held
+total s = s.passed + length s.held + s.beyond
 
 -- no more bytes come
 abbrev pub closed : State → State
 closed s = record s { ended = true }
+
+-- ---- what a reader stands for
+
+-- What these bytes stand for, where others were counted behind as many as a line may have. Those are written as blanks: a
+-- line with them is refused by its length alone.
+abbrev pub stands_for : ℕ → ℕ → List ℕ → List ℕ
+stands_for limit beyond held = take limit held ++ (replicate beyond 32 ++ drop limit held)
+
+-- the text that no line has taken yet
+abbrev pub standing : State → List ℕ
+standing s = stands_for s.limits.line s.beyond s.held
+
+-- these bytes begin with as many as a line may have, and its line feed is none of them
+pub record IsFull (limit : ℕ) (held : List ℕ) : Type 0 where
+  pub full : limit ≤ length held
+  pub unfed : has_no_feed (take limit held) ≡ true
+
+-- bytes were counted only where an unfinished line has too many
+abbrev pub IsStanding : State → Type 0
+IsStanding s = 0 < s.beyond → IsFull s.limits.line s.held
 
 -- ---- the lines that are left
 
@@ -47,9 +69,9 @@ left_unless (Some refusal) lines = refused refusal
 
 -- the lines of the text that are not given yet, if no more bytes come
 abbrev pub left : State → Lines
-left s = left_unless s.refusal (lines_behind s.limits s.count s.passed (raw_lines s.held))
+left s = left_unless s.refusal (lines_behind s.limits s.count s.passed (raw_lines (standing s)))
 
--- ---- one call: what comes first, how many lines are passed with it, and how many of the held bytes
+-- ---- one call: what comes first, how many lines are passed with it, and how many of the bytes that no line has taken
 
 abbrev pub nothing_at : ℕ → ℕ → Step
 nothing_at count used = record { first = Nothing; count = count; used = used }
@@ -75,16 +97,42 @@ step_unless None count step = step
 step_unless (Some refusal) count step = record { first = Refusal refusal; count = count; used = 0 }
 
 abbrev pub step_of : State → Step
-step_of s = step_unless s.refusal s.count (step_from s.limits s.ended s.passed s.count 0 (raw_lines s.held))
+step_of s = step_unless s.refusal s.count (step_from s.limits s.ended s.passed s.count 0 (raw_lines (standing s)))
 
 abbrev pub refusal_in : First → Option LineRefusal
 refusal_in (LineFirst line) = None
 refusal_in (Refusal refusal) = Some refusal
 refusal_in Nothing = None
 
--- the step's lines are passed, and a refusal stays
+-- what is held of an unfinished line: at most as many bytes as a line may have
+abbrev pub held_back : ℕ → List ℕ → List ℕ
+held_back limit text = take limit text
+
+-- how many bytes are counted behind them
+abbrev pub counted : ℕ → List ℕ → ℕ
+counted limit text = length text - limit
+
+-- what is held where this text is left; where no line is whole, it is held back
+abbrev pub held_behind : First → ℕ → List ℕ → List ℕ → List ℕ
+held_behind (LineFirst line) limit held text = held
+held_behind (Refusal refusal) limit held text = held
+held_behind Nothing limit held text = held_back limit text
+
+-- how many are counted then
+abbrev pub beyond_behind : First → ℕ → ℕ → List ℕ → ℕ
+beyond_behind (LineFirst line) limit beyond text = beyond
+beyond_behind (Refusal refusal) limit beyond text = beyond
+beyond_behind Nothing limit beyond text = counted limit text
+
+-- the step's lines are passed, an unfinished line is held back, and a refusal stays
 abbrev pub after_step : State → Step → State
-after_step s step = record s { count = step.count; passed = s.passed + step.used; held = drop step.used s.held; refusal = refusal_in step.first }
+after_step s step = record s {
+  count = step.count;
+  passed = s.passed + step.used;
+  held = held_behind step.first s.limits.line (drop step.used s.held) (drop step.used (standing s));
+  beyond = beyond_behind step.first s.limits.line s.beyond (drop step.used (standing s));
+  refusal = refusal_in step.first;
+}
 
 abbrev pub after : State → State
 after s = after_step s (step_of s)

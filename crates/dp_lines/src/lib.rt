@@ -17,7 +17,7 @@ mod tests;
 mod text;
 mod words;
 
-pub use laws::{any_pieces, every_spelling, first_flaw, nothing_left, round_trip};
+pub use laws::{any_pieces, every_spelling, first_flaw, nothing_left, round_trip, so_far};
 pub use line::{Claim, Line};
 pub use lists::{Literals, Numbers};
 pub use pieces::LineJudge;

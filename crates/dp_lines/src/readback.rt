@@ -6,7 +6,7 @@ ghost use Rattle.dp_base.specs.Lists.{Each};
 ghost use Rattle.dp_lines.specs.RawLines.{raw_lines};
 ghost use Rattle.dp_lines.specs.Lines.{lines, lines_behind, no_lines};
 ghost use Rattle.dp_lines.specs.Logs.{AreNext, Holds, IsNext, all_of, asked_for, behind_line, behind_log, log_text};
-ghost use Rattle.dp_lines.specs.Readers.{State, after, answer_of, fed, fresh, left};
+ghost use Rattle.dp_lines.specs.Readers.{State, after, answer_of, fed, fresh, left, standing};
 ghost use Rattle.dp_lines.specs.Runs.{Call, IsInOrder, fed_by, run, with_all};
 ghost use Rattle.dp_lines.specs.Spelling.{line_text};
 ghost use Rattle.dp_lines.specs.declared.line.Line.{Line};
@@ -18,7 +18,7 @@ ghost use Rattle.dp_lines.specs.declared.refusal.Limits.{Limits};
 pub fn line_read_back()
     ensures held { (s : State) (line : Line) (rest : List ℕ) → IsNext s line rest → answer_of s ≡ Ok (Some (s.count + 1, line)) }
     ensures passed { (s : State) (line : Line) (rest : List ℕ) → IsNext s line rest → after s ≡ behind_line s line rest }
-    ensures fed { (s : State) (line : Line) (rest : List ℕ) → s.held ≡ [] → s.refusal ≡ None →
+    ensures fed { (s : State) (line : Line) (rest : List ℕ) → standing s ≡ [] → s.refusal ≡ None →
         Holds s.limits line → s.passed + length (line_text line) ≤ s.limits.total →
         answer_of (fed s (line_text line ++ rest)) ≡ Ok (Some (s.count + 1, line)) }
 {}

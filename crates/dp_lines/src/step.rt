@@ -3,6 +3,7 @@
 ghost use Rattle.std.specs.Prelude.{◌≡◌, ◌+◌, ◌≤◌, ◌<◌, ◌^◌, true, false, IfNone, IfOk, IfSome, drop, length, take};
 ghost use Rattle.std.specs.List.{prefix_len};
 ghost use Rattle.dp_lines.specs.Kept.{IsFirst, begins_whole, has_no_feed, is_no_feed};
+ghost use Rattle.dp_lines.specs.Overlong.{over};
 ghost use Rattle.dp_lines.specs.RawLines as raw;
 ghost use Rattle.dp_lines.specs.RawLines.{raw_lines};
 ghost use Rattle.dp_lines.specs.Readers as spec;
@@ -135,4 +136,53 @@ pub fn first_step(
         count,
         used,
     })
+}
+
+/// The refusal of line `number`, which has too many bytes and ends at the byte `end` of the log.
+fn by_length(limits: Limits, number: u64, end: u64) -> LineRefusal
+    ensures { result ≡ over limits number end }
+{
+    if end > limits.total {
+        LineRefusal::LogTooLong(number)
+    } else {
+        LineRefusal::TooLong(number)
+    }
+}
+
+/// What an overlong line gives, of which `beyond` bytes were counted behind the first `clear` of those that are held: its
+/// refusal by its length, where its end has come.
+pub fn overlong_step(
+    limits: Limits,
+    ended: bool,
+    passed: u64,
+    count: u64,
+    held: &[u8],
+    clear: usize,
+    beyond: u64,
+) -> Step
+    requires cleared { clear ≤ length held.now }
+    requires no_feed { has_no_feed (take clear held.now) ≡ true }
+    requires full { clear ≡ limits.line }
+    requires counted { 0 < beyond }
+    requires small { passed + length held.now + beyond ≤ 2 ^ 62 }
+    requires lines { count ≤ passed }
+    ensures step { result ≡ spec.step_from limits ended passed count 0 (raw_lines (spec.stands_for limits.line beyond held.now)) }
+    ensures used { result.used ≡ 0 }
+    ensures lines { result.count ≤ passed }
+    ensures nothing { result.first ≡ Nothing → has_no_feed held.now ≡ true }
+{
+    let len = first_len(held, clear);
+    let end = passed + beyond + len as u64;
+    let first = if len < held.len() {
+        First::Refusal(by_length(limits, count + 1, end + 1))
+    } else if ended {
+        First::Refusal(by_length(limits, count + 1, end))
+    } else {
+        First::Nothing
+    };
+    Step {
+        first,
+        count,
+        used: 0,
+    }
 }
