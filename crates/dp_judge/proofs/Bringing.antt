@@ -1,12 +1,12 @@
 -- What each answer of the reader brings.
-use Rattle.std.specs.Prelude.{◌≡◌, ℕ, ◌++◌, true, false, Option, Some, None, Result, Ok, Err, IsOk, IfOk, List, [], ◌∷◌, length}
+use Rattle.std.specs.Prelude.{◌≡◌, ℕ, ◌++◌, Bool, true, false, Option, Some, None, Result, Ok, Err, IsOk, IfOk, IfSome, List, [], ◌∷◌, length}
 use Rattle.std.proofs.Common.{refl, sym, ◌∙◌, ap, subst}
 use Rattle.std.proofs.lemmas.Bool.{false≢true}
 use Rattle.std.proofs.lemmas.List.{append-nil}
 use Rattle.dp_lines.specs.Lines.{Lines, lines}
 use Rattle.dp_lines.specs.Pieces.{HasRead}
 use Rattle.dp_lines.specs.RawLines.{raw_lines}
-use Rattle.dp_lines.specs.Readers.{State, closed, fed, left}
+use Rattle.dp_lines.specs.Readers.{State, closed, fed, fresh, left}
 use Rattle.dp_lines.specs.Runs.{with_all}
 use Rattle.dp_lines.specs.Spelling.{line_text}
 use Rattle.dp_lines.specs.Standing.{CanCome}
@@ -14,7 +14,7 @@ use Rattle.dp_lines.specs.declared.line.Line.{Line}
 use Rattle.dp_lines.specs.declared.refusal.LineFault.{LineFault}
 use Rattle.dp_lines.specs.declared.refusal.LineFault.TheVariants.{Refused as Refusing}
 use Rattle.dp_lines.specs.declared.refusal.LineRefusal.{LineRefusal}
-use Rattle.dp_lines.proofs.PiecesLaws.{Says, has_closed, has_fed, line_read, lines_come, none_read, refused_come, so_far_read, unread_read, whole_count, whole_read}
+use Rattle.dp_lines.proofs.PiecesLaws.{Says, has_begun, has_closed, has_fed, line_read, lines_come, none_read, refused_come, so_far_read, unread_read, whole_count, whole_read}
 use Rattle.dp_parts.specs.Posed.{Posed}
 use Rattle.dp_parts.specs.Problems.{Csp, IsProblem, posed}
 use Rattle.dp_checker.specs.Judged.{judge, judge_all, outcome, verdict}
@@ -22,7 +22,7 @@ use Rattle.dp_checker.specs.Known.{Known, nothing}
 use Rattle.dp_checker.specs.declared.refusal.StepRefusal.{StepRefusal}
 use Rattle.dp_checker.specs.declared.refusal.Why.{Why}
 use Rattle.dp_judge.specs.Logs.{IsGoalAnswer, IsRightAnswer, IsSmallAnswer, answer_after, conclude, has_no_refusal, judged_log, limits, text_of_line}
-use Rattle.dp_judge.specs.Pieces.{ArePassed, AreRefused, Going, IsDue, IsJudged, IsNext, IsTaken, Refuses}
+use Rattle.dp_judge.specs.Pieces.{AreLeft, ArePassed, AreRefused, Going, IsBehind, IsDue, IsJudged, IsNext, IsTaken, Refuses}
 use Rattle.dp_judge.specs.declared.answer.LogAnswer.{LogAnswer}
 use Rattle.dp_judge.specs.declared.answer.LogAnswer.TheVariants.{Accepted, Unread, Refused as RefusedAnswer}
 use Rattle.dp_judge.specs.declared.pieces.Next.{Next}
@@ -149,6 +149,20 @@ brings_refusal p front was r s end refusal j is says = record {
 
 -- ---- pieces and the end
 
+-- nothing has come
+pub begins : (j : Going) → IsProblem j.problem → j.progress ≡ Ok nothing → j.reader ≡ fresh limits → IsBehind j []
+begins j problem known reader = record {
+  problem = problem;
+  judged = record {
+    given = [];
+    read = subst (λ (s : State). HasRead limits [] [] s) (sym reader) (has_begun limits);
+    judged = known;
+    going = subst IsOk (sym known) refl;
+  };
+  unended = ap (λ (s : State). s.ended) reader;
+  quiet = (refl, refl);
+}
+
 -- a piece has come
 pub piece_judged : (p : Posed) (front piece : List ℕ) (known : Result Known StepRefusal) (s : State) → IsJudged p front known s → s.ended ≡ false →
     IsJudged p (front ++ piece) known (fed s piece)
@@ -175,6 +189,107 @@ due_where j text answer problem e right = record {
 
 pub refused_due : (j : Going) (text : List ℕ) (answer : LogAnswer) → IsProblem j.problem → answer ≡ judged_log (posed j.problem) text → Refuses answer → IsDue j text answer
 refused_due j text answer problem e refuses = due_where j text answer problem e (refused_right j.problem answer refuses)
+
+-- what the next line brings is of the problem at the start
+pub carried : (old now : Csp) (next : Next) (front : List ℕ) (first was known : Result Known StepRefusal) (start s end : State) → now ≡ old →
+    ((text : List ℕ) → IsJudged (posed old) text first start → IsJudged (posed old) text was s) → ((text : List ℕ) → IsJudged (posed now) text was s → IsNext next (posed now) text known end) →
+    IsJudged (posed old) front first start → IsNext next (posed old) front known end
+carried old now next front first was known start s end e before brings j =
+    subst (λ (q : Csp). IsNext next (posed q) front known end) e (brings front (subst (λ (q : Csp). IsJudged (posed q) front was s) (sym e) (before front j)))
+
+-- what judging the lines that are left answers where this is known
+abbrev pub Left : Csp → Option LogAnswer → Result Known StepRefusal → State → Result Known StepRefusal → State → Type 0
+Left p answer was s known end = (front : List ℕ) → IsJudged (posed p) front was s → AreLeft answer (posed p) front known end
+
+left_by : (p : Csp) (answer other : Option LogAnswer) (front : List ℕ) (known : Result Known StepRefusal) (end : State) → answer ≡ other →
+    AreLeft answer (posed p) front known end → AreLeft other (posed p) front known end
+left_by p answer other front known end e h = subst (λ (o : Option LogAnswer). AreLeft o (posed p) front known end) e h
+
+-- what a piece brings to the lines that are left
+piece_left : (j : Going) (front piece : List ℕ) (answer : Option LogAnswer) (s end : State) (known : Result Known StepRefusal) → s ≡ fed j.reader piece → Left j.problem answer j.progress s known end →
+    IsBehind j front → AreLeft answer (posed j.problem) (front ++ piece) known end
+piece_left j front piece answer s end known e left h =
+    left (front ++ piece) (subst (λ (t : State). IsJudged (posed j.problem) (front ++ piece) j.progress t) (sym e) (piece_judged (posed j.problem) front piece j.progress j.reader h.judged h.unended))
+
+-- where no line is refused, more may follow
+pub fed_going : (j now : Going) (front piece : List ℕ) (answer : Option LogAnswer) (s : State) → s ≡ fed j.reader piece → now.problem ≡ j.problem → now.reader.ended ≡ s.ended →
+    Left j.problem answer j.progress s now.progress now.reader → answer ≡ None → IsBehind j front → IsBehind now (front ++ piece)
+fed_going j now front piece answer s e same ended left none h =
+    let a : ArePassed (posed j.problem) (front ++ piece) now.progress now.reader =
+    left_by j.problem answer None (front ++ piece) now.progress now.reader none (piece_left j front piece answer s now.reader now.progress e left h) in
+    let open_text : now.reader.ended ≡ false = ended ∙ ap (λ (t : State). t.ended) e ∙ h.unended in
+    record {
+      problem = subst IsProblem (sym same) h.problem;
+      judged = subst (λ (q : Csp). IsJudged (posed q) (front ++ piece) now.progress now.reader) (sym same) a.judged;
+      unended = open_text;
+      quiet = subst (λ (q : Csp). has_no_refusal (posed q) (front ++ piece)) (sym same) (a.quiet open_text);
+    }
+
+no_end : (ended : Bool) (fact : Type 0) → ended ≡ false → ended ≡ true → fact
+no_end ended fact e f = absurd (false≢true (sym e ∙ f))
+
+-- the text of a piece and of what follows it
+refused_at_last : (j : Going) (front piece more : List ℕ) (a : LogAnswer) (end : State) → end.ended ≡ false → AreRefused (posed j.problem) (front ++ piece) end a → IsBehind j front →
+    IsDue j (front ++ piece ++ more) a
+refused_at_last j front piece more a end open_text r h =
+    refused_due j (front ++ piece ++ more) a h.problem (r.answered more (no_end end.ended (more ≡ []) open_text)) r.refuses
+
+some_refused : (j : Going) (piece : List ℕ) (answer : Option LogAnswer) (end : State) (known : Result Known StepRefusal) → end.ended ≡ false →
+    ((front : List ℕ) → IsBehind j front → AreLeft answer (posed j.problem) (front ++ piece) known end) → ((front : List ℕ) × IsBehind j front) →
+    IfSome answer (λ a. Refuses a × ((front more : List ℕ) → IsBehind j front → IsDue j (front ++ piece ++ more) a))
+some_refused j piece None end known open_text left some = tt
+some_refused j piece (Some a) end known open_text left (first, h) =
+    ((left first h).refuses, λ front more k. refused_at_last j front piece more a end open_text (left front k) k)
+
+-- where a line is refused, it is so whatever follows
+pub fed_refused : (j : Going) (piece : List ℕ) (answer : Option LogAnswer) (s end : State) (known : Result Known StepRefusal) → s ≡ fed j.reader piece → end.ended ≡ s.ended →
+    Left j.problem answer j.progress s known end → ((front : List ℕ) × IsBehind j front) →
+    IfSome answer (λ a. Refuses a × ((front more : List ℕ) → IsBehind j front → IsDue j (front ++ piece ++ more) a))
+fed_refused j piece answer s end known e ended left (first, h) =
+    some_refused j piece answer end known (ended ∙ ap (λ (t : State). t.ended) e ∙ h.unended) (λ front k. piece_left j front piece answer s end known e left k) (first, h)
+
+-- what the end brings to the lines that are left
+end_left : (j : Going) (front : List ℕ) (answer : Option LogAnswer) (s end : State) (known : Result Known StepRefusal) → s ≡ closed j.reader → Left j.problem answer j.progress s known end →
+    IsBehind j front → AreLeft answer (posed j.problem) front known end
+end_left j front answer s end known e left h =
+    left front (subst (λ (t : State). IsJudged (posed j.problem) front j.progress t) (sym e) (end_judged (posed j.problem) front j.progress j.reader h.judged))
+
+-- the last line is refused
+pub ended_refused : (j : Going) (front : List ℕ) (answer : Option LogAnswer) (a : LogAnswer) (s end : State) (known : Result Known StepRefusal) → s ≡ closed j.reader →
+    Left j.problem answer j.progress s known end → answer ≡ Some a → IsBehind j front → IsDue j front a
+ended_refused j front answer a s end known e left some h =
+    let r : AreRefused (posed j.problem) front end a = left_by j.problem answer (Some a) front known end some (end_left j front answer s end known e left h) in
+    refused_due j front a h.problem (r.answered [] (λ f. refl) ∙ ap (judged_log (posed j.problem)) (append-nil front)) r.refuses
+
+-- all lines pass
+pub ended_passed : (j : Going) (front : List ℕ) (answer : Option LogAnswer) (a : LogAnswer) (s end : State) (known : Result Known StepRefusal) (p : Csp) (count : ℕ) → s ≡ closed j.reader →
+    end.ended ≡ s.ended → Left j.problem answer j.progress s known end → answer ≡ None → a ≡ conclude (verdict known count) → count ≡ end.count → p ≡ j.problem → IsRightAnswer p a →
+    IsBehind j front → IsDue j front a
+ended_passed j front answer a s end known p count e ended left none is counted same right h =
+    let passed : ArePassed (posed j.problem) front known end = left_by j.problem answer None front known end none (end_left j front answer s end known e left h) in
+    due_where j front a h.problem (is ∙ ap (λ n. conclude (verdict known n)) counted ∙ sym (passed.whole (ended ∙ ap (λ (t : State). t.ended) e)))
+    (subst (λ (q : Csp). IsRightAnswer q a) same right)
+
+-- what is due where a line of the only piece is refused
+pub refused_alone : (j : Going) (piece : List ℕ) (answer : Option LogAnswer) (a : LogAnswer) → answer ≡ Some a →
+    IfSome answer (λ b. Refuses b × ((front more : List ℕ) → IsBehind j front → IsDue j (front ++ piece ++ more) b)) → IsBehind j [] → IsDue j (piece ++ []) a
+refused_alone j piece answer a e h behind =
+    (subst (λ (o : Option LogAnswer). IfSome o (λ b. Refuses b × ((front more : List ℕ) → IsBehind j front → IsDue j (front ++ piece ++ more) b))) e h).1 [] [] behind
+
+-- what is due of this problem
+pub due_of : (j : Going) (p : Csp) (text other : List ℕ) (a : LogAnswer) → j.problem ≡ p → text ≡ other → IsDue j text a →
+    (a ≡ judged_log (posed p) other) × IsRightAnswer p a × IsGoalAnswer p a × IsSmallAnswer other a
+due_of j p text other a e same d = (
+  d.answered ∙ ap (λ (q : Csp). judged_log (posed q) text) e ∙ ap (judged_log (posed p)) same,
+  subst (λ (q : Csp). IsRightAnswer q a) e d.right,
+  subst (λ (q : Csp). IsGoalAnswer q a) e d.goal,
+  subst (λ (t : List ℕ). IsSmallAnswer t a) same d.small,
+)
+
+-- a fact of every answer
+pub always_ok : {A E : Type 0} {Q : A → Type 0} (r : Result A E) → ((x : A) → Q x) → IfOk r Q
+always_ok (Ok x) f = f x
+always_ok (Err e) f = tt
 
 -- an answer's fact follows from another
 pub if_ok : {A E : Type 0} {P Q : A → Type 0} (r : Result A E) → ((x : A) → P x → Q x) → IfOk r P → IfOk r Q

@@ -6,4 +6,3 @@ pub mod Pieces
 pub mod Rooms
 pub mod Adding
 pub mod Kept
-pub mod Left
