@@ -1,8 +1,7 @@
 -- What the bytes that a reader holds stand for.
-use Rattle.std.proofs.Common.{◌≡◌, ℕ, zero, suc, ◌+◌, ◌-◌, ◌<◌, ◌≤◌, Bool, true, List, [], ◌∷◌, ◌++◌, length, length-append, length-take-le, take, drop, replicate, append_assoc, refl, sym, ap, ◌∙◌, arith, inl, inr}
-use Rattle.std.specs.List.{list_all}
+use Rattle.std.proofs.Common.{◌≡◌, ℕ, zero, suc, ◌+◌, ◌-◌, ◌<◌, ◌≤◌, true, List, ◌++◌, length, length-append, length-take-le, take, drop, replicate, append_assoc, refl, sym, ap, ◌∙◌, arith, inl, inr}
 use Rattle.std.proofs.lemmas.Bool.{cases_lt}
-use Rattle.std.proofs.lemmas.List.{append-nil, drop_all, drop-append-le, length-replicate, take-append-drop, take-append-le, take_all}
+use Rattle.std.proofs.lemmas.List.{drop_all, drop-append-le, length-replicate, take-append-drop, take-append-le, take_all}
 use Rattle.std.proofs.lemmas.List.Folds.{list_all-append}
 use Rattle.dp_lines.specs.Kept.{IsKept, has_no_feed, is_no_feed}
 use Rattle.dp_lines.proofs.RawLaws.{both}

@@ -1,9 +1,9 @@
 -- A line with more bytes than a line may have: of its bytes only their number matters.
-use Rattle.std.proofs.Common.{◌≡◌, ℕ, ◌+◌, ◌-◌, ◌<◌, ◌≤◌, Bool, true, false, cond, ◌||◌, List, [], ◌∷◌, ◌++◌, length, length-append, drop, take, nat_lt, filter, refl, sym, ap, ◌∙◌, arith, inl, inr}
-use Rattle.std.proofs.lemmas.Bool.{cases_Bool, cases_lt}
+use Rattle.std.proofs.Common.{◌≡◌, ℕ, ◌+◌, ◌<◌, ◌≤◌, Bool, true, false, cond, ◌||◌, List, [], ◌∷◌, ◌++◌, length, length-append, drop, nat_lt, filter, refl, sym, ap, ◌∙◌, arith, inl, inr}
+use Rattle.std.proofs.lemmas.Bool.{cases_lt}
 use Rattle.std.proofs.lemmas.Bool.Decides.{nat_tests}
 use Rattle.dp_lines.specs.Kept.{has_no_feed, is_no_feed}
-use Rattle.dp_lines.specs.Lines.{Lines, judged, judged_content, led_by, lines_behind, refused}
+use Rattle.dp_lines.specs.Lines.{judged, judged_content, led_by, lines_behind, refused}
 use Rattle.dp_lines.specs.Overlong.{over}
 use Rattle.dp_lines.specs.RawLines.{Raw, content, raw_lines, size, with_byte}
 use Rattle.dp_lines.specs.Readers.{IsFull, counted, decided, held_back, nothing_at, stands_for, step_from}
@@ -13,7 +13,6 @@ use Rattle.dp_lines.specs.declared.refusal.Limits.{Limits}
 use Rattle.dp_lines.specs.declared.refusal.LineRefusal.{LineRefusal}
 use Rattle.dp_lines.specs.declared.refusal.LineRefusal.TheVariants.{TooLong, LogTooLong}
 use Rattle.dp_lines.specs.declared.step.First.TheVariants.{Refusal}
-use Rattle.dp_lines.specs.declared.step.Step.{Step}
 use Rattle.dp_lines.proofs.HeldLaws.{back_long, back_short, by_front, front_of, front_unfed, length_front, unfed_front}
 use Rattle.dp_lines.proofs.RawLaws.{both, feed_step}
 

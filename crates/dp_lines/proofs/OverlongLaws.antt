@@ -1,9 +1,8 @@
 -- The step at a line of which bytes were counted.
-use Rattle.std.proofs.Common.{◌≡◌, ℕ, ◌+◌, ◌<◌, ◌≤◌, Bool, true, false, cond, ◌||◌, List, [], ◌∷◌, ◌++◌, length, length-append, take, drop, refl, sym, ap, ◌∙◌, arith, length-take-le}
+use Rattle.std.proofs.Common.{◌≡◌, ℕ, ◌+◌, ◌<◌, ◌≤◌, Bool, true, false, cond, ◌||◌, List, [], ◌∷◌, ◌++◌, length, length-append, take, drop, refl, ap, ◌∙◌, arith, length-take-le}
 use Rattle.std.specs.List.{prefix_len}
 use Rattle.std.proofs.Math.Seq.{drop-append_seam, take-append_seam}
 use Rattle.dp_lines.specs.Kept.{has_no_feed, is_no_feed}
-use Rattle.dp_lines.specs.Lines.{judged}
 use Rattle.dp_lines.specs.Overlong.{over}
 use Rattle.dp_lines.specs.RawLines.{Raw, raw_lines, size}
 use Rattle.dp_lines.specs.Readers.{IsFull, decided, nothing_at, stands_for, step_from}

@@ -1,5 +1,5 @@
 -- Any calls of a reader give the lines of all that it was fed.
-use Rattle.std.proofs.Common.{◌≡◌, ℕ, ◌+◌, ◌-◌, ◌<◌, Bool, true, false, cond, ◌||◌, eqb, List, [], ◌∷◌, ◌++◌, length, drop, take, append_assoc, Option, Some, None, Result, Ok, refl, sym, ap, subst, ◌∙◌, arith}
+use Rattle.std.proofs.Common.{◌≡◌, ℕ, ◌+◌, ◌-◌, Bool, true, false, cond, ◌||◌, eqb, List, [], ◌∷◌, ◌++◌, length, drop, take, append_assoc, Option, Some, None, Ok, refl, sym, ap, ◌∙◌, arith}
 use Rattle.std.proofs.lemmas.List.{append-nil, take_all}
 use Rattle.dp_lines.specs.Lines.{Lines, lines, lines_behind, no_lines, with_line}
 use Rattle.dp_lines.specs.Kept.{begins_whole, has_no_feed}
@@ -10,11 +10,9 @@ use Rattle.dp_lines.specs.SoFar.{HasNoEnd, left_so_far, lines_so_far, whole_line
 use Rattle.dp_lines.specs.Standing.{HasNoWhole}
 use Rattle.dp_lines.specs.declared.line.Line.{Line}
 use Rattle.dp_lines.specs.declared.refusal.Limits.{Limits}
-use Rattle.dp_lines.specs.declared.refusal.LineFault.{LineFault}
 use Rattle.dp_lines.specs.declared.refusal.LineRefusal.{LineRefusal}
 use Rattle.dp_lines.specs.declared.step.First.{First}
 use Rattle.dp_lines.specs.declared.step.First.TheVariants.{Line as LineFirst, Refusal, Nothing}
-use Rattle.dp_lines.specs.declared.step.Step.{Step}
 use Rattle.dp_lines.proofs.HeldLaws.{fed_stands, stands_whole, stood_for}
 use Rattle.dp_lines.proofs.LongLaws.{seen}
 use Rattle.dp_lines.proofs.RawLaws.{no_whole_unfed, raw_unfed}

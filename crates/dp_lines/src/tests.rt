@@ -109,7 +109,7 @@ fn in_two(
     Ok(take(&mut reader, wanted, at))
 }
 
-/// The same of a small text that is fed byte by byte.
+/// The same of a small text that is fed byte by byte, where no more bytes are held of an unfinished line than the limit says.
 fn bytewise(
     alloc: Global,
     limits: Limits,
@@ -126,7 +126,11 @@ fn bytewise(
     let mut at = 0;
     for byte in text {
         reader.feed(&[*byte])?;
-        at = take(&mut reader, wanted, at).0;
+        let (place, fault) = take(&mut reader, wanted, at);
+        if fault.is_none() && reader.kept() as u64 > limits.line {
+            return Err(Memory);
+        }
+        at = place;
     }
     reader.end();
     Ok(take(&mut reader, wanted, at))
@@ -527,7 +531,7 @@ type Limited = (
     Option<LineRefusal>,
 );
 
-const LIMITED: [Limited; 16] = [
+const LIMITED: [Limited; 24] = [
     (7, 8, b"c UNSAT\n", &[(1, Wanted::Unsat)], None),
     (7, 8, b"c UNSAT\r\n", &[], Some(LineRefusal::LogTooLong(1))),
     (7, 99, b"c UNSAT\r\n", &[], Some(LineRefusal::TooLong(1))),
@@ -556,6 +560,26 @@ const LIMITED: [Limited; 16] = [
     (3, 99, b"xxxx", &[], Some(LineRefusal::TooLong(1))),
     (9, 0, b"", &[], None),
     (0, 3, b"\n\n\n", &[], None),
+    (3, 99, b"xxxxxx\n", &[], Some(LineRefusal::TooLong(1))),
+    (3, 7, b"xxxxxx\n", &[], Some(LineRefusal::TooLong(1))),
+    (3, 6, b"xxxxxx\n", &[], Some(LineRefusal::LogTooLong(1))),
+    (3, 6, b"xxxxxx", &[], Some(LineRefusal::TooLong(1))),
+    (3, 5, b"xxxxxx", &[], Some(LineRefusal::LogTooLong(1))),
+    (0, 9, b"x\n", &[], Some(LineRefusal::TooLong(1))),
+    (
+        7,
+        99,
+        b"c UNSAT\n           \nc UNSAT",
+        &[(1, Wanted::Unsat)],
+        Some(LineRefusal::TooLong(2)),
+    ),
+    (
+        7,
+        18,
+        b"c UNSAT\n          \n",
+        &[(1, Wanted::Unsat)],
+        Some(LineRefusal::LogTooLong(2)),
+    ),
 ];
 
 #[test]
@@ -585,5 +609,18 @@ fn lines_are_seen_once(rt: HostRuntime) -> Result<(), Fail> {
     assert_eq!(rt; take(&mut reader, &[], 0), (0, fault));
     assert_eq!(rt; take(&mut reader, &[], 0), (0, fault));
     assert_eq!(rt; reader.lines_seen(), 5);
+    Ok(())
+}
+
+#[test]
+fn an_overlong_line_is_counted(rt: HostRuntime) -> Result<(), Fail> {
+    let mut reader = Reader::new(rt.alloc(), Limits { line: 4, total: 99 });
+    reader.feed(b"\nxxxxx")?;
+    assert_eq!(rt; take(&mut reader, &[], 0), (0, None));
+    assert_eq!(rt; (reader.lines_seen(), reader.kept()), (1, 4));
+    reader.feed(b"x \nc UNSAT\n")?;
+    let fault = Some(LineFault::Refused(LineRefusal::TooLong(2)));
+    assert_eq!(rt; take(&mut reader, &[], 0), (0, fault));
+    assert_eq!(rt; reader.lines_seen(), 1);
     Ok(())
 }

@@ -1,9 +1,8 @@
-use Rattle.std.proofs.Common.{◌≡◌, ℕ, ◌+◌, ◌≤◌, List, sym, ◌∙◌, ap, arith, length, take, true}
+use Rattle.std.proofs.Common.{◌≡◌, ℕ, ◌≤◌, List, sym, ◌∙◌, ap, arith, length, take, true}
 use Rattle.dp_lines.specs.Kept.{has_no_feed}
-use Rattle.dp_lines.specs.Readers.{IsFull, step_from, stands_for}
-use Rattle.dp_lines.specs.RawLines.{raw_lines}
+use Rattle.dp_lines.specs.Readers.{IsFull}
 use Rattle.dp_lines.specs.declared.step.First.{First}
-use Rattle.dp_lines.specs.declared.step.First.TheVariants.{Refusal, Nothing}
+use Rattle.dp_lines.specs.declared.step.First.TheVariants.{Refusal}
 use Rattle.dp_lines.specs.declared.refusal.LineRefusal.{LineRefusal}
 use Rattle.dp_lines.specs.declared.step.Step.{Step}
 use Rattle.dp_lines.proofs.OverlongLaws.{over_ended, over_fed, over_open}
