@@ -1,3 +1,3 @@
-pub mod NextLaws
-pub mod Bringing
 pub mod AcceptLaws
+pub mod Bringing
+pub mod NumberLaws

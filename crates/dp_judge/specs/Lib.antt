@@ -1,2 +1,2 @@
 pub mod Logs
-pub mod Left
+pub mod Pieces

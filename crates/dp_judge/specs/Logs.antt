@@ -1,11 +1,12 @@
 -- What is answered for a log: the verdict on its lines, or its first refused line.
-use Rattle.std.specs.Prelude.{◌≡◌, ◌<◌, ◌≤◌, true, ℕ, ◌^◌, Option, Some, None, Result, Ok, Err, List, length, nat_eq}
+use Rattle.std.specs.Prelude.{◌≡◌, ◌<◌, ◌≤◌, true, ℕ, ◌^◌, Option, Some, None, Result, Ok, Err, IsOk, List, length, nat_eq}
 use Rattle.std.specs.Map.{lookup}
 use Rattle.std.specs.Option.{option_map}
 use Rattle.dp_domain.specs.declared.verdict.Verdict.{Verdict}
 use Rattle.dp_domain.specs.declared.verdict.Verdict.TheVariants.{Unsat, Bound}
 use Rattle.dp_lines.specs.Lines.{Lines, lines}
 use Rattle.dp_lines.specs.RawLines.{raw_lines}
+use Rattle.dp_lines.specs.SoFar.{lines_so_far}
 use Rattle.dp_lines.specs.Spelling.{line_text}
 use Rattle.dp_lines.specs.declared.line.Line.{Line}
 use Rattle.dp_lines.specs.declared.refusal.LineRefusal.{LineRefusal}
@@ -45,6 +46,10 @@ answer_after (Ok known) ls count = ended ls.refusal (conclude (verdict_of count 
 -- the answer for a log's bytes
 abbrev pub judged_log : Posed → List ℕ → LogAnswer
 judged_log p text = let ls = lines limits text in answer_after (judge_all p (Ok nothing) ls.given) ls (length (raw_lines text))
+
+-- no line of the log whose end has come is refused
+abbrev pub has_no_refusal : Posed → List ℕ → Type 0
+has_no_refusal p front = let ls = lines_so_far limits front in (ls.refusal ≡ None) × IsOk (judge_all p (Ok nothing) ls.given)
 
 -- where the log is accepted, its verdict is right
 abbrev pub IsRightAnswer : Csp → LogAnswer → Type 0

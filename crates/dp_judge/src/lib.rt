@@ -3,6 +3,8 @@
 
 mod answer;
 mod judge;
+mod pieces;
 
 pub use answer::LogAnswer;
 pub use judge::judge_log;
+pub use pieces::Judging;

@@ -7,6 +7,7 @@ pub mod LenientLaws
 pub mod LongLaws
 pub mod ManyLaws
 pub mod OverlongLaws
+pub mod PiecesLaws
 pub mod RawLaws
 pub mod ReadBackLaws
 pub mod ReadingLaws

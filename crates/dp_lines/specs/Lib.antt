@@ -9,6 +9,7 @@ pub mod Lines
 pub mod Logs
 pub mod Overlong
 pub mod Parts
+pub mod Pieces
 pub mod RawLines
 pub mod Readers
 pub mod Runs

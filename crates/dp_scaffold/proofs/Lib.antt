@@ -1,5 +1,4 @@
 pub mod Passing
 pub mod Keeping
-pub mod NextLaws
 pub mod Bringing
 mod TestProblem

@@ -1,7 +1,8 @@
 -- The scaffold of a text: of its lines, or the first that is refused.
-use Rattle.std.specs.Prelude.{ℕ, Option, Some, None, Result, Ok, Err, List, length}
+use Rattle.std.specs.Prelude.{◌≡◌, ℕ, Option, Some, None, Result, Ok, Err, IsOk, List, length}
 use Rattle.dp_lines.specs.Lines.{Lines, lines}
 use Rattle.dp_lines.specs.RawLines.{raw_lines}
+use Rattle.dp_lines.specs.SoFar.{lines_so_far}
 use Rattle.dp_lines.specs.declared.refusal.LineRefusal.{LineRefusal}
 use Rattle.dp_parts.specs.Posed.{Posed}
 use Rattle.dp_parts.specs.Problems.{Csp}
@@ -30,6 +31,10 @@ answer_after (Ok g) ls count = ended ls.refusal (give (scaffold_of (Ok g) count)
 -- the answer for the bytes of a scaffold, which are read within the limits of a log
 abbrev pub scaffold_text : Posed → List ℕ → ScaffoldAnswer
 scaffold_text p text = let ls = lines limits text in answer_after (gather_all p (Ok nothing) ls.given) ls (length (raw_lines text))
+
+-- no line of the text whose end has come is refused
+abbrev pub has_no_refusal : Posed → List ℕ → Type 0
+has_no_refusal p front = let ls = lines_so_far limits front in (ls.refusal ≡ None) × IsOk (gather_all p (Ok nothing) ls.given)
 
 -- a scaffold that is given is one of the problem
 abbrev pub IsScaffoldAnswer : Csp → ScaffoldAnswer → Type 0

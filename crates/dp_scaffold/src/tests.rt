@@ -1,4 +1,4 @@
-ghost use Rattle.std.specs.Prelude.{◌≡◌, ◌≤◌, ◌^◌, ◌∷◌, [], nat_eq, length, codes, IfOk, OnOk};
+ghost use Rattle.std.specs.Prelude.{◌≡◌, ◌<◌, ◌≤◌, ◌^◌, ◌∷◌, [], nat_eq, length, codes, IfOk, OnOk};
 ghost use Rattle.std.specs.Cmp.Lexicographic.{pointwise};
 ghost use Rattle.indexmap.specs.IndexMap.{insert_entry};
 ghost use Rattle.dp_lines.specs.Allowed.{IsAllowed};
@@ -6,7 +6,8 @@ ghost use Rattle.dp_parts.specs.Problems.{IsGoalOf};
 
 use super::*;
 use dp_domain::{Atom, Dom, Memory, Name, Op, State, VarId, Verdict};
-use dp_lines::{Limits, Line, Reader};
+use dp_judge::{Judging, LogAnswer};
+use dp_lines::{Limits, Line, LineJudge, LineRefusal, Reader};
 use dp_parts::{Goal, Problem};
 use indexmap::IndexMap;
 use std::alloc::Global;
@@ -314,6 +315,119 @@ fn given_scaffolds(rt: HostRuntime) -> Result<(), Fail> {
             *bound,
             "text {place}"
         );
+    }
+    Ok(())
+}
+
+// The answer for a text that comes in pieces of so many bytes, and how many had come where a piece answers.
+fn in_pieces<J: LineJudge + Drop>(
+    mut judge: J,
+    text: &[u8],
+    size: usize,
+) -> Result<(J::Answer, Option<usize>), Memory>
+    requires begun { J.behind judge [] }
+    requires few { length text.now ≤ 1000 }
+    requires some { 0 < size }
+{
+    let mut came = 0;
+    while came < text.len() {
+        let (_, rest) = text.split_at(came);
+        let (piece, _) = rest.split_at(size.min(rest.len()));
+        came += piece.len();
+        if let Some(answer) = judge.feed(piece)? {
+            return Ok((answer, Some(came)));
+        }
+    }
+    Ok((judge.finish()?, None))
+}
+
+// What is answered.
+#[derive(Clone, Copy, Debug, PartialEq, Eq)]
+enum Told {
+    Passed,
+    Unread(LineRefusal),
+    Refused(u64),
+}
+
+fn of_log(answer: &LogAnswer) -> Told {
+    match answer {
+        LogAnswer::Accepted(_) => Told::Passed,
+        LogAnswer::Unread(refusal) => Told::Unread(*refusal),
+        LogAnswer::Refused(refusal, _) => Told::Refused(refusal.line),
+    }
+}
+
+fn of_scaffold(answer: &ScaffoldAnswer) -> Told {
+    match answer {
+        ScaffoldAnswer::Given(_) => Told::Passed,
+        ScaffoldAnswer::Unread(refusal) => Told::Unread(*refusal),
+        ScaffoldAnswer::Refused(refusal, _) => Told::Refused(refusal.line),
+    }
+}
+
+// A text, the number of bytes of each piece, what is answered, and how many bytes have come where a piece answers.
+type Piecewise = (&'static [u8], usize, Told, Option<usize>);
+
+const BOUND: &[u8] = b"a 1 [obj >= 0]\nc 1\n";
+const UNKNOWN: &[u8] = b"a 1 [obj >= 0]\nn 1 9\nc 1\n";
+const MISSING: &[u8] = b"a 1 [obj >= 0]\nn\nc 1\n";
+const UNENDED: &[u8] = b"a 1 [obj >= 0]\nn 1 9";
+
+const PIECES: [Piecewise; 13] = [
+    // all lines pass
+    (BOUND, 1, Told::Passed, None),
+    (BOUND, 7, Told::Passed, None),
+    (BOUND, 1000, Told::Passed, None),
+    // the piece that ends the refused line answers
+    (UNKNOWN, 1, Told::Refused(2), Some(21)),
+    (UNKNOWN, 7, Told::Refused(2), Some(21)),
+    (UNKNOWN, 1000, Told::Refused(2), Some(25)),
+    (MISSING, 1, Told::Unread(LineRefusal::Form(2, 2)), Some(17)),
+    (MISSING, 7, Told::Unread(LineRefusal::Form(2, 2)), Some(21)),
+    // a line without its end is judged in the end
+    (UNENDED, 1, Told::Refused(2), None),
+    (UNENDED, 7, Told::Refused(2), None),
+    (UNENDED, 1000, Told::Refused(2), None),
+    // nothing concludes nothing
+    (b"", 1, Told::Refused(1), None),
+    (b"\n", 1, Told::Refused(2), None),
+];
+
+// What is told of a short log in pieces, and of a scaffold.
+fn log_in_pieces(
+    alloc: Global,
+    text: &[u8],
+    size: usize,
+) -> Result<Option<(Told, Option<usize>)>, Memory> {
+    if text.len() > 1000 || size == 0 {
+        return Ok(None);
+    }
+    let problem = problem_of(alloc, goal_of(Least))?;
+    let (answer, came) = in_pieces(Judging::new(alloc, &problem)?, text, size)?;
+    Ok(Some((of_log(&answer), came)))
+}
+
+fn scaffold_in_pieces(
+    alloc: Global,
+    text: &[u8],
+    size: usize,
+) -> Result<Option<(Told, Option<usize>)>, Memory> {
+    if text.len() > 1000 || size == 0 {
+        return Ok(None);
+    }
+    let problem = problem_of(alloc, goal_of(Least))?;
+    let (answer, came) = in_pieces(ScaffoldReading::new(alloc, &problem)?, text, size)?;
+    Ok(Some((of_scaffold(&answer), came)))
+}
+
+#[test]
+fn texts_in_pieces(rt: HostRuntime) -> Result<(), Fail> {
+    for (place, (text, size, told, came)) in PIECES.iter().enumerate() {
+        let wanted = Some((*told, *came));
+        let of_log = log_in_pieces(rt.alloc(), *text, *size)?;
+        let of_scaffold = scaffold_in_pieces(rt.alloc(), *text, *size)?;
+        assert_eq!(rt; of_log, wanted, "log {place}");
+        assert_eq!(rt; of_scaffold, wanted, "scaffold {place}");
     }
     Ok(())
 }

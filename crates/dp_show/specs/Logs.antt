@@ -1,7 +1,8 @@
 -- What is shown of a log: its steps, up to its end or its first refused line.
-use Rattle.std.specs.Prelude.{ℕ, ◌^◌, Option, Some, None, List, [], ◌∷◌, ◌++◌}
+use Rattle.std.specs.Prelude.{◌≡◌, ℕ, ◌^◌, Option, Some, None, List, [], ◌∷◌, ◌++◌}
 use Rattle.std.specs.Option.{option_map}
 use Rattle.dp_lines.specs.Lines.{lines}
+use Rattle.dp_lines.specs.SoFar.{lines_so_far}
 use Rattle.dp_lines.specs.Spelling.{line_text}
 use Rattle.dp_lines.specs.declared.line.Line.{Line}
 use Rattle.dp_lines.specs.declared.refusal.LineRefusal.{LineRefusal}
@@ -43,3 +44,7 @@ shown_lines atoms (line ∷ lines) unread =
 -- what is shown of a log's bytes
 abbrev pub shown_log : List ℕ → Shown
 shown_log text = let ls = lines limits text in shown_lines [] ls.given ls.refusal
+
+-- no line of the log whose end has come is refused
+abbrev pub has_no_refusal : List ℕ → Type 0
+has_no_refusal front = let ls = lines_so_far limits front in (shown_lines [] ls.given ls.refusal).refusal ≡ None

@@ -3,11 +3,13 @@
 
 pub mod laws;
 mod named;
+mod pieces;
 mod show;
 mod shown;
 mod spell;
 #[cfg(test)]
 mod tests;
 
+pub use pieces::Showing;
 pub use show::show_log;
 pub use shown::{Refusal, Shown};

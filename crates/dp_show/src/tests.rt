@@ -1,7 +1,9 @@
+ghost use Rattle.std.specs.Prelude.{◌≤◌, ◌<◌, length};
+
 use super::*;
 use dp_checker::Why;
 use dp_domain::Memory;
-use dp_lines::LineRefusal;
+use dp_lines::{LineJudge, LineRefusal};
 use std::alloc::Global;
 use std::test::Fail;
 
@@ -153,5 +155,86 @@ fn whole_logs(rt: HostRuntime) -> Result<(), Fail> {
 #[test]
 fn refused_logs(rt: HostRuntime) -> Result<(), Fail> {
     assert!(rt; all_shown(rt.alloc(), REFUSED)?);
+    Ok(())
+}
+
+/// What is shown of a log that comes in pieces of so many bytes, and how many had come where a piece answers.
+fn in_pieces(alloc: Global, log: &[u8], size: usize) -> Result<(Shown, Option<usize>), Memory>
+    requires few { length log.now ≤ 1000 }
+    requires some { 0 < size }
+{
+    let mut showing = Showing::new(alloc)?;
+    let mut came = 0;
+    while came < log.len() {
+        let (_, rest) = log.split_at(came);
+        let (piece, _) = rest.split_at(size.min(rest.len()));
+        came += piece.len();
+        if let Some(shown) = showing.feed(piece)? {
+            return Ok((shown, Some(came)));
+        }
+    }
+    Ok((showing.finish()?, None))
+}
+
+/// Whether this is shown of a short log in pieces of so many bytes, by a piece where so many had come.
+fn shows_in_pieces(alloc: Global, case: &Case, size: usize, at: Option<usize>) -> Result<bool, Memory> {
+    let (log, steps, wanted) = case;
+    if log.len() > 1000 || size == 0 {
+        return Ok(false);
+    }
+    let (shown, came) = in_pieces(alloc, log, size)?;
+    Ok(shown.steps.bytes() == *steps && is_wanted(&shown.refusal, *wanted) && came == at)
+}
+
+/// A log, the number of bytes of each piece, and how many have come where a piece answers.
+type Piecewise = (&'static Case, usize, Option<usize>);
+
+const MISSING: &Case = &(
+    b"a 1 [x >= 1]\nn 1 1\nn\nc UNSAT\n",
+    b"1: not ([x >= 1])\n",
+    Wanted::Unread(LineRefusal::Form(3, 2)),
+);
+
+const UNKNOWN: &Case = &(
+    b"a 1 [x >= 1]\ni 6 1 0 2\nc UNSAT\n",
+    b"",
+    Wanted::Refused(2, Why::UnknownAtom(2), b"i 6 1 0 2\n"),
+);
+
+const UNENDED: &Case = &(
+    b"n 1 0 4\nn 2 7 8",
+    b"1: not (true) by 4\n",
+    Wanted::Refused(2, Why::UnknownAtom(7), b"n 2 7 8\n"),
+);
+
+const EMPTY: &Case = &(b"", b"", Wanted::End);
+
+const ALL: &Case = &(PROOF, PROOF_STEPS, Wanted::End);
+
+const PIECES: &[Piecewise] = &[
+    // the piece that ends the refused line answers
+    (MISSING, 1, Some(21)),
+    (MISSING, 7, Some(21)),
+    (MISSING, 1000, Some(29)),
+    (UNKNOWN, 1, Some(23)),
+    (UNKNOWN, 7, Some(28)),
+    (UNKNOWN, 1000, Some(31)),
+    // a line without its end is judged in the end
+    (UNENDED, 1, None),
+    (UNENDED, 7, None),
+    (UNENDED, 1000, None),
+    // nothing
+    (EMPTY, 1, None),
+    // a whole proof
+    (ALL, 1, None),
+    (ALL, 7, None),
+    (ALL, 1000, None),
+];
+
+#[test]
+fn logs_in_pieces(rt: HostRuntime) -> Result<(), Fail> {
+    for (case, size, at) in PIECES {
+        assert!(rt; shows_in_pieces(rt.alloc(), case, *size, *at)?);
+    }
     Ok(())
 }

@@ -1,0 +1,15 @@
+-- The log comes as one piece.
+use Rattle.std.specs.Prelude.{[]}
+use Rattle.dp_show.proofs.Bringing.{if_ok, refused_alone}
+use Rattle.dp_show.proofs.show.show_log.Goals as goal
+
+pub finish-requires : goal.finish-requires
+finish-requires c = (c.args.log.now, c.in_ok-answer.ensures.going c.in-None.is [] c.in_ok-showing.ensures)
+
+pub returns-in-Some : goal.returns-in-Some
+returns-in-Some c =
+    refused_alone c.in_ok-showing.showing c.args.log.now c.in_ok-answer.field-0 c.in-Some.shown c.in-Some.is c.in_ok-answer.ensures.refused c.in_ok-showing.ensures
+
+pub returns-in-None : goal.returns-in-None
+returns-in-None c =
+    if_ok c.finish.result (λ a f. f c.args.log.now (c.in_ok-answer.ensures.going c.in-None.is [] c.in_ok-showing.ensures)) c.finish.ensures
