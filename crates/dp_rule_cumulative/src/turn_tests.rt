@@ -23,21 +23,15 @@ const S: Term = Term::Var(VarId(0));
 
 const T: Term = Term::Var(VarId(1));
 
-// The turn of a task and one that runs from 4 until 7 and uses 2 of 3, where the first starts at one of
-// these and not at the others.
+// The turn of a task and one that runs from 4 until 7 and uses 2 of 3.
 fn turn_beside(
     alloc: Global,
-    starts: (i64, i64),
-    without: &[i64],
+    state: &State,
     duration: i64,
     usage: i64,
 ) -> Result<Option<Found>, Fail> {
     let rule = cumulative(alloc, &[S, Term::Const(4)], &[duration, 3], &[usage, 2], 3)?;
-    let mut state = state_of(alloc, &[starts, (0, 0)])?;
-    for value in without {
-        state = cut_by(&state, &[atom(0, Op::Ne, *value)?])?;
-    }
-    Ok(turn_at(&rule, &state)?)
+    Ok(turn_at(&rule, state)?)
 }
 
 #[test]
@@ -64,52 +58,77 @@ fn a_task_after_another(rt: HostRuntime) -> Result<(), Fail> {
 }
 
 #[test]
-fn a_task_beside_one_from_4_until_7(rt: HostRuntime) -> Result<(), Fail> {
+fn a_task_is_pushed_right(rt: HostRuntime) -> Result<(), Fail> {
     let alloc = rt.alloc();
-    let clash = Some(Found::Clash);
-    for (starts, without, duration, usage, wanted) in [
-        ((3, 9), [8, 8], 2, 2, at_least(0, 5)),
-        ((5, 9), [8, 8], 1, 2, at_least(0, 6)),
-        ((0, 9), [8, 8], 10, 2, at_least(0, 7)),
-        ((0, 9), [7, 8], 10, 2, at_least(0, 9)),
-        ((-4, 9), [5, 6], 9, 2, at_least(0, 7)),
-        ((6, 7), [0, 0], 5, 2, at_least(0, 7)),
-        ((2, 9), [8, 8], 2, 2, None),
-        ((0, 4), [8, 8], 2, 2, at_most(0, 2)),
-        ((0, 4), [1, 2], 2, 2, at_most(0, 0)),
-        ((0, 6), [8, 8], 1, 2, at_most(0, 5)),
-        ((-20, 4), [0, 1], 10, 2, at_most(0, -6)),
-        ((0, 7), [8, 8], 2, 2, None),
-        ((3, 4), [8, 8], 2, 2, clash),
-        ((-3, 4), [0, 1], 8, 2, clash),
-        ((3, 9), [8, 8], 2, 1, None),
-        ((3, 9), [8, 8], 2, 0, None),
-        ((3, 9), [8, 8], 0, 2, None),
-        ((5, 5), [8, 8], 1, 1, None),
-        ((3, 9), [8, 8], 2, 4, at_least(0, 5)),
+    for (first, last, duration, usage, value) in [
+        (3, 9, 2, 2, 5),
+        (5, 9, 1, 2, 6),
+        (0, 9, 10, 2, 7),
+        (6, 7, 5, 2, 7),
+        (3, 9, 2, 4, 5),
     ] {
+        let state = state_of(alloc, &[(first, last), (0, 0)])?;
         assert_eq!(rt;
-            turn_beside(alloc, starts, without.as_slice(), duration, usage)?,
-            wanted,
-            "{duration} {usage}"
+            turn_beside(alloc, &state, duration, usage)?,
+            at_least(0, value)
         );
     }
     Ok(())
 }
 
 #[test]
-fn one_variable_before_another(rt: HostRuntime) -> Result<(), Fail> {
+fn a_task_is_pushed_left(rt: HostRuntime) -> Result<(), Fail> {
+    let alloc = rt.alloc();
+    for (first, last, duration, usage, value) in [
+        (0, 4, 2, 2, 2),
+        (0, 6, 1, 2, 5),
+        (-20, 4, 10, 2, -6),
+    ] {
+        let state = state_of(alloc, &[(first, last), (0, 0)])?;
+        assert_eq!(rt;
+            turn_beside(alloc, &state, duration, usage)?,
+            at_most(0, value)
+        );
+    }
+    Ok(())
+}
+
+#[test]
+fn a_task_is_not_pushed(rt: HostRuntime) -> Result<(), Fail> {
+    let alloc = rt.alloc();
+    for (first, last, duration, usage, wanted) in [
+        (2, 9, 2, 2, None),
+        (0, 7, 2, 2, None),
+        (3, 9, 2, 1, None),
+        (3, 9, 2, 0, None),
+        (3, 9, 0, 2, None),
+        (5, 5, 1, 1, None),
+        (3, 4, 2, 2, Some(Found::Clash)),
+        (-3, 4, 8, 2, Some(Found::Clash)),
+    ] {
+        let state = state_of(alloc, &[(first, last), (0, 0)])?;
+        assert_eq!(rt; turn_beside(alloc, &state, duration, usage)?, wanted);
+    }
+    Ok(())
+}
+
+#[test]
+fn a_task_is_pushed_over_a_hole(rt: HostRuntime) -> Result<(), Fail> {
+    let alloc = rt.alloc();
+    let right = cut_by(&state_of(alloc, &[(0, 9), (0, 0)])?, &[atom(0, Op::Ne, 7)?])?;
+    assert_eq!(rt; turn_beside(alloc, &right, 10, 2)?, at_least(0, 8));
+    let left = cut_by(&state_of(alloc, &[(0, 4), (0, 0)])?, &[atom(0, Op::Ne, 2)?])?;
+    assert_eq!(rt; turn_beside(alloc, &left, 2, 2)?, at_most(0, 1));
+    Ok(())
+}
+
+#[test]
+fn the_first_variable_that_has_a_bound(rt: HostRuntime) -> Result<(), Fail> {
     let alloc = rt.alloc();
     let rule = cumulative(alloc, &[T, S, Term::Const(4)], &[2, 2, 3], &[2, 2, 2], 3)?;
-    for (first, second, wanted) in [
-        ((3, 9), (3, 9), at_least(0, 5)),
-        ((0, 9), (3, 9), at_least(1, 5)),
-        ((0, 4), (3, 9), at_most(0, 2)),
-        ((0, 9), (0, 4), at_most(1, 2)),
-        ((0, 9), (0, 9), None),
-    ] {
-        let state = state_of(alloc, &[first, second])?;
-        assert_eq!(rt; turn_at(&rule, &state)?, wanted);
+    for (first, other, var) in [(3, 3, 0), (0, 3, 1)] {
+        let state = state_of(alloc, &[(first, 9), (other, 9)])?;
+        assert_eq!(rt; turn_at(&rule, &state)?, at_least(var, 5));
     }
     Ok(())
 }
@@ -119,14 +138,10 @@ fn a_lower_bound_before_an_upper(rt: HostRuntime) -> Result<(), Fail> {
     let alloc = rt.alloc();
     let starts = [S, Term::Const(0), Term::Const(10)];
     let rule = cumulative(alloc, &starts, &[2, 1, 1], &[2, 2, 2], 3)?;
-    for (starts, wanted) in [
-        ((0, 9), at_least(0, 1)),
-        ((1, 9), at_most(0, 8)),
-        ((1, 8), None),
-    ] {
-        let state = state_of(alloc, &[starts, (0, 0)])?;
-        assert_eq!(rt; turn_at(&rule, &state)?, wanted);
-    }
+    let both = state_of(alloc, &[(0, 9), (0, 0)])?;
+    assert_eq!(rt; turn_at(&rule, &both)?, at_least(0, 1));
+    let upper = state_of(alloc, &[(1, 9), (0, 0)])?;
+    assert_eq!(rt; turn_at(&rule, &upper)?, at_most(0, 8));
     Ok(())
 }
 
@@ -139,21 +154,29 @@ fn one_variable_that_starts_two_tasks(rt: HostRuntime) -> Result<(), Fail> {
     Ok(())
 }
 
+// The turn of a task of the largest duration beside one at this start.
+fn large_turn(alloc: Global, start: i64, first: i64, last: i64) -> Result<Option<Found>, Fail> {
+    let rule = cumulative(alloc, &[S, Term::Const(start)], &[LARGEST, 1], &[1, 1], 1)?;
+    let state = state_of(alloc, &[(first, last), (0, 0)])?;
+    Ok(turn_at(&rule, &state)?)
+}
+
 #[test]
 fn starts_that_are_large(rt: HostRuntime) -> Result<(), Fail> {
     let alloc = rt.alloc();
-    for (start, first, last, wanted) in [
-        (LARGEST - 1, 1, LARGEST, at_least(0, LARGEST)),
-        (LARGEST, 0, LARGEST, at_most(0, 0)),
-        (LARGEST, -LARGEST, 0, None),
-        (-LARGEST, -LARGEST, -1, at_least(0, -LARGEST + 1)),
-        (LARGEST, -LARGEST, LARGEST, at_most(0, 0)),
-        (i64::MAX, 1, LARGEST, None),
-        (i64::MIN, 1, LARGEST, None),
-    ] {
-        let rule = cumulative(alloc, &[S, Term::Const(start)], &[LARGEST, 1], &[1, 1], 1)?;
-        let state = state_of(alloc, &[(first, last), (0, 0)])?;
-        assert_eq!(rt; turn_at(&rule, &state)?, wanted, "{start}");
-    }
+    assert_eq!(rt;
+        large_turn(alloc, LARGEST - 1, 1, LARGEST)?,
+        at_least(0, LARGEST)
+    );
+    assert_eq!(rt;
+        large_turn(alloc, -LARGEST, -LARGEST, -1)?,
+        at_least(0, -LARGEST + 1)
+    );
+    assert_eq!(rt;
+        large_turn(alloc, LARGEST, -LARGEST, LARGEST)?,
+        at_most(0, 0)
+    );
+    assert_eq!(rt; large_turn(alloc, i64::MAX, 1, LARGEST)?, None);
+    assert_eq!(rt; large_turn(alloc, i64::MIN, 1, LARGEST)?, None);
     Ok(())
 }
