@@ -1,30 +1,29 @@
 -- The bounds beside the times at which a task does not fit are those that are given.
-use Rattle.std.proofs.Common.{◌≡◌, ℕ, ◌+◌, ◌<◌, ◌≤◌, Bool, true, false, ◌⊎◌, Option, Some, None, option_map, is_some, List, [], ◌∷◌, ℤ, pos, ◌+ℤ◌, ◌-ℤ◌, ◌≤ℤ◌, ◌<ℤ◌, int_le, refl, sym, ◌∙◌, ap, subst, inl, inr, arith}
+use Rattle.std.proofs.Common.{◌≡◌, ℕ, ◌+◌, ◌<◌, Bool, true, false, Option, Some, None, option_map, is_some, List, [], ◌∷◌, ℤ, pos, ◌+ℤ◌, ◌-ℤ◌, ◌≤ℤ◌, ◌<ℤ◌, int_le, refl, sym, ◌∙◌, ap, subst, inl, inr, arith}
 use Rattle.std.specs.Prelude.{cond, unwrap_or, ◌&&◌}
-use Rattle.std.specs.Int.{int_max, int_min}
 use Rattle.std.specs.List.{filter}
 use Rattle.std.proofs.lemmas.Int.{ints}
 use Rattle.std.proofs.lemmas.Bool.{both_ways, cases_Bool, false_from_ne_true, false≢true}
 use Rattle.dp_base.specs.Lists.{Among}
 use Rattle.dp_base.proofs.Lists.{Among-filter_all, Among-filter_only}
-use Rattle.dp_domain.specs.Atoms.{Atomic, meets, negated}
-use Rattle.dp_domain.specs.Sets.{greatest, greatest_from, least, least_from}
+use Rattle.dp_domain.specs.Atoms.{Atomic, negated}
+use Rattle.dp_domain.specs.Sets.{greatest, least}
 use Rattle.dp_domain.specs.States.{Domains, entails, values}
 use Rattle.dp_domain.specs.Turns.{at_least, at_most, gives, given_on, new_hole, new_lower, new_upper, or_else, other_than}
 use Rattle.dp_domain.specs.declared.term.Term.TheVariants.{Var}
 use Rattle.dp_domain.specs.Terms.{term_values}
 use Rattle.dp_domain.proofs.AtomLaws.{le-from_test, lt-from_test, test-from_le, test-from_lt}
 use Rattle.dp_domain.proofs.IntervalSteps.{from_max, from_min, over_both, under_both}
-use Rattle.dp_domain.proofs.SetLaws.{greatest-is, greatest_from-among, greatest_from-bound, least-is, least_from-among, least_from-bound}
+use Rattle.dp_domain.proofs.SetLaws.{greatest-is, greatest_from-among, least-is, least_from-among}
 use Rattle.dp_domain.proofs.StateLaws.{entails-fails, entails-not}
 use Rattle.dp_domain.proofs.TurnLaws.{Bottoms, Tops, gives-parts, greatest-tops, least-bottoms}
 use Rattle.dp_rule_cumulative.specs.Profiles.{IsBound, IsEarliest, IsLast, IsLowerBound, IsUpperBound, bound_after, bound_before, conflicts, early_demand, first_start, last_start, late_demand, parts_of, used_at}
-use Rattle.dp_rule_cumulative.specs.Schedules.{Schedule, earliest_end, is_during, latest_start, must_run, usage_of}
+use Rattle.dp_rule_cumulative.specs.Schedules.{Schedule, earliest_end, latest_start, must_run, usage_of}
 use Rattle.dp_rule_cumulative.specs.TimeTable.{face_cumulative}
 use Rattle.dp_rule_cumulative.specs.UsageLaws.{during_from, during_parts, greatest-value, least-value}
 use Rattle.dp_rule_cumulative.specs.declared.task.Task.{Task}
 use Rattle.dp_rule_cumulative.proofs.CauseLaws.{IsAlone, IsCause, cause-given, given-cause, runs-each}
-use Rattle.dp_rule_cumulative.proofs.ConflictLaws.{LacksRoom, lacks_from, lacks_parts}
+use Rattle.dp_rule_cumulative.proofs.ConflictLaws.{lacks_from, lacks_parts}
 use Rattle.dp_rule_cumulative.proofs.ProfileLaws.{used-is}
 
 -- ---- numbers

@@ -1,12 +1,10 @@
 -- Steps of the bounds: numbers that fit, and atoms that are made.
-use Rattle.std.proofs.Common.{◌≡◌, ℕ, ◌^◌, Bool, true, false, ◌↔◌, Option, Some, None, option_map, IsSome, IfSome, List, [], ◌∷◌, ℤ, pos, neg_ℤ, ◌+ℤ◌, ◌-ℤ◌, ◌≤ℤ◌, int_le, refl, sym, ◌∙◌, ap, subst, arith}
-use Rattle.std.specs.Prelude.{unwrap_or}
+use Rattle.std.proofs.Common.{◌≡◌, ℕ, true, ◌↔◌, Option, Some, None, option_map, IsSome, IfSome, List, [], ◌∷◌, ℤ, pos, ◌+ℤ◌, ◌-ℤ◌, ◌≤ℤ◌, int_le, sym, ◌∙◌, ap, subst, arith}
 use Rattle.std.specs.Int.{int_max}
 use Rattle.std.specs.List.{filter}
 use Rattle.std.proofs.lemmas.Int.{ints}
 use Rattle.std.proofs.lemmas.Bool.{false≢true}
-use Rattle.dp_base.specs.Lists.{Among}
-use Rattle.dp_base.proofs.Lists.{Among-filter_only, Each-among}
+use Rattle.dp_base.proofs.Lists.{Among-filter_only}
 use Rattle.dp_domain.specs.Atoms.{Atomic, IsNameable}
 use Rattle.dp_domain.specs.declared.atom.Op.{Op}
 use Rattle.dp_domain.specs.declared.atom.Op.TheVariants.{Ge, Le}

@@ -1,8 +1,7 @@
 -- Why a cut of one start clashes: at some time its task must run then, and does not fit beside what must run already.
-use Rattle.std.proofs.Common.{◌≡◌, ℕ, ◌+◌, ◌<◌, ◌≤◌, Bool, true, false, not, ◌⊎◌, ◌↔◌, List, [], ◌∷◌, length, ℤ, pos, ◌+ℤ◌, ◌≤ℤ◌, ◌<ℤ◌, int_le, refl, sym, ◌∙◌, ap, subst, inl, inr, arith}
+use Rattle.std.proofs.Common.{◌≡◌, ℕ, ◌+◌, ◌<◌, ◌≤◌, Bool, true, false, ◌⊎◌, ◌↔◌, List, [], ◌∷◌, ℤ, pos, ◌+ℤ◌, refl, sym, ◌∙◌, ap, subst, inl, inr, arith}
 use Rattle.std.specs.Prelude.{cond, unwrap_or}
 use Rattle.std.specs.List.{filter, sum_by}
-use Rattle.std.proofs.lemmas.Int.{ints}
 use Rattle.std.proofs.lemmas.Bool.{both_ways, cases_Bool, cases_lt, false_from_ne_true, false≢true}
 use Rattle.std.proofs.lemmas.List.Sums.{sum_by-cons}
 use Rattle.dp_base.specs.Lists.{Among}
@@ -18,10 +17,10 @@ use Rattle.dp_domain.proofs.AtomLaws.{meets-from_not, negated-negated}
 use Rattle.dp_domain.proofs.StateLaws.{Among-cut_all, Among-cut_meets, Among-cut_only, entails-fails, entails-from_dead_cut, values-cut_other}
 use Rattle.dp_domain.proofs.TurnLaws.{gives-from, gives-parts}
 use Rattle.dp_rule_cumulative.specs.Profiles.{is_start}
-use Rattle.dp_rule_cumulative.specs.Schedules.{Schedule, earliest_end, is_during, latest_start, must_run, usage_of}
+use Rattle.dp_rule_cumulative.specs.Schedules.{Schedule, is_during, must_run, usage_of}
 use Rattle.dp_rule_cumulative.specs.TimeTable.{ClashesCumulative, face_cumulative, test_cumulative}
 use Rattle.dp_rule_cumulative.specs.TimeTableLaws.{cumulative_exact}
-use Rattle.dp_rule_cumulative.specs.UsageLaws.{sum-le, usage, usage-le}
+use Rattle.dp_rule_cumulative.specs.UsageLaws.{usage, usage-le}
 use Rattle.dp_rule_cumulative.specs.declared.task.Task.{Task}
 use Rattle.dp_rule_cumulative.proofs.MustRunLaws.{must_run-each}
 

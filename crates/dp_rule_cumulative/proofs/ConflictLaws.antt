@@ -1,19 +1,15 @@
 -- Where a demand has no room, it has none at its own end, or at an edge of some part.
-use Rattle.std.proofs.Common.{◌≡◌, ℕ, ◌+◌, ◌<◌, ◌≤◌, nat_lt, Bool, true, false, ◌⊎◌, Option, Some, None, List, [], ◌∷◌, ◌++◌, length, get_or, take, map, ℤ, ◌≤ℤ◌, ◌<ℤ◌, int_le, int_lt, refl, sym, ◌∙◌, ap, subst, inl, inr, arith}
-use Rattle.std.specs.Prelude.{cond, ◌&&◌}
-use Rattle.std.specs.Int.{int_max, int_min}
-use Rattle.std.specs.List.{filter, sum_by}
-use Rattle.std.specs.Option.{option_map_or}
+use Rattle.std.proofs.Common.{◌≡◌, ℕ, ◌+◌, ◌<◌, ◌≤◌, nat_lt, true, false, ◌⊎◌, Option, Some, None, List, [], ◌∷◌, map, ℤ, ◌≤ℤ◌, ◌<ℤ◌, int_le, int_lt, refl, sym, ◌∙◌, ap, subst, inl, inr, arith}
+use Rattle.std.specs.List.{filter}
 use Rattle.std.proofs.lemmas.Int.{ints}
 use Rattle.std.proofs.lemmas.Bool.{and_from, and_parts, both_ways, cases_Bool, false_from_ne_true}
 use Rattle.std.proofs.lemmas.Bool.Decides.{nat_tests}
 use Rattle.dp_base.specs.Lists.{Among}
 use Rattle.dp_base.proofs.Lists.{Among-filter_all, Among-filter_only}
-use Rattle.dp_domain.specs.Sets.{greatest, greatest_from, least, least_from}
+use Rattle.dp_domain.specs.Sets.{greatest, least}
 use Rattle.dp_domain.proofs.AtomLaws.{le-from_test, lt-from_test, test-from_le}
 use Rattle.dp_domain.proofs.ExplanationLaws.{Among-map, Among-map_item}
-use Rattle.dp_domain.proofs.IntervalSteps.{greater, lesser}
-use Rattle.dp_domain.proofs.SetLaws.{greatest-among, greatest-bound, greatest-is, least-among, least-bound, least-is}
+use Rattle.dp_domain.proofs.SetLaws.{greatest-among, greatest-bound, least-among, least-bound}
 use Rattle.dp_rule_cumulative.specs.Profiles.{IsEarliest, IsLast, conflicts, edges_of, ends_in, holds_at, is_within, lacks_room, starts_in, used_at}
 use Rattle.dp_rule_cumulative.specs.UsageLaws.{sum-le}
 use Rattle.dp_rule_cumulative.specs.declared.demand.Demand.{Demand}

@@ -6,24 +6,22 @@ use Rattle.std.proofs.lemmas.Bool.{both_ways, cases_Bool}
 use Rattle.std.proofs.lemmas.Bool.Decides.{nat_tests}
 use Rattle.std.proofs.lemmas.List.{take_more}
 use Rattle.std.proofs.lemmas.Option.{none-some, same_Some}
-use Rattle.dp_base.specs.Lists.{Among, Climbs, Each}
+use Rattle.dp_base.specs.Lists.{Among, Climbs}
 use Rattle.dp_base.specs.Scopes.{in_order, with_variable}
 use Rattle.dp_base.proofs.Lists.{Among-append_cases, Among-append_left, Among-append_right, Each-among}
 use Rattle.dp_base.proofs.ScopeLaws.{among_in_order, among_in_order_out, climbs_in_order, order_of, with_variable-after, with_variable-before, with_variable-same}
 use Rattle.dp_domain.specs.Atoms.{Atomic}
 use Rattle.dp_domain.specs.Faces.{Face}
-use Rattle.dp_domain.specs.Sets.{greatest, least}
-use Rattle.dp_domain.specs.States.{Domains, is_dead, values}
+use Rattle.dp_domain.specs.States.{Domains, is_dead}
 use Rattle.dp_domain.specs.Terms.{term_scope, term_variables, variable_of}
 use Rattle.dp_domain.specs.Turns.{at_least, at_most, given, given_on, or_else, other_than}
 use Rattle.dp_domain.specs.declared.term.Term.{Term}
 use Rattle.dp_domain.specs.declared.term.Term.TheVariants.{Var, Const}
 use Rattle.dp_domain.proofs.TermLaws.{IsInScope}
-use Rattle.dp_rule_cumulative.specs.Profiles.{AreDistinct, IsBound, TakesBound, TakesOn, is_before, is_start, parts_of}
-use Rattle.dp_rule_cumulative.specs.Schedules.{Schedule, schedule, starts}
+use Rattle.dp_rule_cumulative.specs.Profiles.{AreDistinct, TakesBound, TakesOn, is_before, is_start, parts_of}
+use Rattle.dp_rule_cumulative.specs.Schedules.{Schedule, starts}
 use Rattle.dp_rule_cumulative.specs.TimeTable.{face_cumulative, test_cumulative}
 use Rattle.dp_rule_cumulative.specs.UsageLaws.{start_in_scope}
-use Rattle.dp_rule_cumulative.specs.declared.profile.Part.{Part}
 use Rattle.dp_rule_cumulative.specs.declared.task.Task.{Task}
 use Rattle.dp_rule_cumulative.proofs.BoundLaws.{bound-given}
 use Rattle.dp_rule_cumulative.proofs.CauseLaws.{IsAlone}

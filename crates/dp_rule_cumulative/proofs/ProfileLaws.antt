@@ -1,14 +1,14 @@
 -- The parts of tasks use what the tasks use that must run.
-use Rattle.std.proofs.Common.{◌≡◌, ℕ, ◌+◌, ◌<◌, ◌≤◌, nat_lt, Bool, true, false, List, [], ◌∷◌, map, ℤ, pos, ◌+ℤ◌, ◌-ℤ◌, ◌≤ℤ◌, ◌<ℤ◌, int_le, int_lt, refl, sym, ◌∙◌, ap, subst, inl, inr, arith}
+use Rattle.std.proofs.Common.{◌≡◌, ℕ, ◌+◌, nat_lt, Bool, true, false, List, [], ◌∷◌, ℤ, pos, ◌-ℤ◌, ◌≤ℤ◌, ◌<ℤ◌, int_le, int_lt, refl, sym, ◌∙◌, ap, arith}
 use Rattle.std.specs.Prelude.{cond, ◌&&◌, ◌||◌}
 use Rattle.std.specs.List.{filter, list_any, sum_by}
 use Rattle.std.proofs.lemmas.Int.{ints}
-use Rattle.std.proofs.lemmas.Bool.{and_from, and_parts, both_ways, false_from_ne_true}
+use Rattle.std.proofs.lemmas.Bool.{both_ways, false_from_ne_true}
 use Rattle.std.proofs.lemmas.List.Sums.{sum_by-cons}
 use Rattle.dp_domain.specs.States.{Domains}
 use Rattle.dp_domain.proofs.TestLaws.{same_tests}
-use Rattle.dp_rule_cumulative.specs.Profiles.{has_time, holds_at, is_exceeded, is_within, part_of, parts_of, used_at}
-use Rattle.dp_rule_cumulative.specs.Schedules.{earliest_end, is_during, latest_start, must_run, usage_of}
+use Rattle.dp_rule_cumulative.specs.Profiles.{has_time, holds_at, is_exceeded, part_of, parts_of, used_at}
+use Rattle.dp_rule_cumulative.specs.Schedules.{earliest_end, latest_start, must_run, usage_of}
 use Rattle.dp_rule_cumulative.specs.TimeTable.{has_overload, starts_overload}
 use Rattle.dp_rule_cumulative.specs.UsageLaws.{during_from, during_parts, usage}
 use Rattle.dp_rule_cumulative.specs.declared.profile.Part.{Part}

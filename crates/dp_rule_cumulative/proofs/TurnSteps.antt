@@ -1,12 +1,9 @@
 -- The turn by the parts of the tasks.
-use Rattle.std.proofs.Common.{◌≡◌, ℕ, Bool, true, false, Option, Some, None, option_map, refl, sym, ◌∙◌, ap}
+use Rattle.std.proofs.Common.{◌≡◌, Bool, true, false, Option, Some, None, option_map, refl, sym, ◌∙◌, ap}
 use Rattle.std.specs.Prelude.{cond, ◌||◌}
-use Rattle.std.proofs.lemmas.Bool.{both_ways}
 use Rattle.dp_domain.specs.Atoms.{Atomic}
-use Rattle.dp_domain.specs.Faces.{Face}
 use Rattle.dp_domain.specs.States.{Domains, is_dead}
 use Rattle.dp_domain.specs.Turns.{given, or_else, turn_of}
-use Rattle.dp_domain.specs.declared.found.Found.{Found}
 use Rattle.dp_domain.specs.declared.found.Found.TheVariants.{Atom, Clash}
 use Rattle.std.specs.Option.{option_or}
 use Rattle.dp_rule_cumulative.specs.Profiles.{is_exceeded, parts_of}

@@ -1,5 +1,5 @@
 -- The lower bound where there is one, else the upper.
-use Rattle.std.proofs.Common.{◌≡◌, true, false, Option, Some, None, is_some, refl, sym, ◌∙◌, subst, inl, inr}
+use Rattle.std.proofs.Common.{◌≡◌, false, Option, Some, None, is_some, refl, sym, ◌∙◌, subst, inl, inr}
 use Rattle.std.proofs.lemmas.Bool.{true≢false}
 use Rattle.dp_domain.specs.Atoms.{Atomic}
 use Rattle.dp_rule_cumulative.specs.Profiles.{IsLowerBound}

@@ -1,5 +1,5 @@
 -- The ends of the demand.
-use Rattle.std.proofs.Common.{◌∙◌, ap, pos, ◌+ℤ◌, ◌-ℤ◌, FitsSigned, rules, arith}
+use Rattle.std.proofs.Common.{◌∙◌, ap, pos, ◌+ℤ◌, FitsSigned, rules, arith}
 use Rattle.std.proofs.lemmas.Int.{ints, to_z-of_z}
 use mir.Syntax.{w128}
 use Rattle.dp_rule_cumulative.specs.Profiles.{first_start, last_start}

@@ -1,5 +1,5 @@
 -- The last time of the demand, or of a part.
-use Rattle.std.proofs.Common.{◌≡◌, false, Some, ◌∙◌, sym, ap, subst, FitsSigned, rules}
+use Rattle.std.proofs.Common.{◌≡◌, false, ◌∙◌, sym, ap, subst, FitsSigned, rules}
 use Rattle.std.proofs.lemmas.Int.{to_z-of_z}
 use mir.Syntax.{w128}
 use Rattle.dp_domain.specs.Sets.{greatest}

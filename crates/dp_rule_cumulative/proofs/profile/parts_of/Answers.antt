@@ -1,5 +1,5 @@
 -- The start of each task is of the state, and each task adds its part.
-use Rattle.dp_rule_cumulative.proofs.UsageSteps.{parts_more, term_at_place}
+use Rattle.dp_rule_cumulative.proofs.UsageSteps.{term_at_place}
 use Rattle.dp_rule_cumulative.proofs.profile.parts_of.Goals as goal
 
 pub push_part-requires : goal.push_part-requires

@@ -1,8 +1,8 @@
 -- The start of each task is of the state, and each task takes its bound where that comes first.
-use Rattle.std.proofs.Common.{sym, subst}
+use Rattle.std.proofs.Common.{subst}
 use Rattle.std.proofs.lemmas.List.{take_all}
-use Rattle.dp_rule_cumulative.specs.Profiles.{TakesBound, parts_of}
-use Rattle.dp_rule_cumulative.specs.Schedules.{Schedule, schedule}
+use Rattle.dp_rule_cumulative.specs.Profiles.{TakesBound}
+use Rattle.dp_rule_cumulative.specs.Schedules.{schedule}
 use Rattle.dp_rule_cumulative.specs.TimeTable.{face_cumulative}
 use Rattle.dp_rule_cumulative.proofs.FirstLaws.{IsFirstOf, alone_at, first_all, first_more, first_none}
 use Rattle.dp_rule_cumulative.proofs.UsageSteps.{among_at, term_at_place}

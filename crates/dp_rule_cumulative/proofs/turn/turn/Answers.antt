@@ -1,5 +1,5 @@
 -- The parts tell whether it clashes, and the first bound is what it gives.
-use Rattle.std.proofs.Common.{◌≡◌, option_map, sym, ◌∙◌, ap}
+use Rattle.std.proofs.Common.{option_map, sym, ◌∙◌, ap}
 use Rattle.dp_domain.specs.declared.found.Found.TheVariants.{Atom}
 use Rattle.dp_rule_cumulative.specs.Profiles.{is_exceeded}
 use Rattle.dp_rule_cumulative.specs.Schedules.{schedule}

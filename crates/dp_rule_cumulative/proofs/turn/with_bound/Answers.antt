@@ -1,6 +1,5 @@
 -- A constant start gives nothing.
-use Rattle.std.proofs.Common.{refl, sym, subst, length}
-use Rattle.dp_domain.specs.Terms.{IsTermOf}
+use Rattle.std.proofs.Common.{sym, subst}
 use Rattle.dp_rule_cumulative.specs.Profiles.{TakesBound}
 use Rattle.dp_rule_cumulative.proofs.turn.with_bound.Goals as goal
 

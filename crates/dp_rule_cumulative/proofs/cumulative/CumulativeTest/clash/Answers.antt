@@ -1,9 +1,9 @@
 -- The starts of the tasks are of a state that covers their scope, and their parts show the overload.
-use Rattle.std.proofs.Common.{◌≡◌, Bool, true, false, length, refl, sym, ◌∙◌, ap, subst}
+use Rattle.std.proofs.Common.{◌≡◌, Bool, true, false, length, sym, ◌∙◌, ap, subst}
 use Rattle.std.specs.Prelude.{◌||◌}
 use Rattle.dp_domain.proofs.TermLaws.{terms_covered}
 use Rattle.dp_domain.specs.Faces.{Covers}
-use Rattle.dp_domain.specs.States.{Domains, is_dead}
+use Rattle.dp_domain.specs.States.{is_dead}
 use Rattle.dp_domain.specs.Terms.{AreTermsOf}
 use Rattle.dp_rule_cumulative.specs.Profiles.{is_exceeded, parts_of}
 use Rattle.dp_rule_cumulative.specs.Schedules.{Schedule, scope_of, starts}
