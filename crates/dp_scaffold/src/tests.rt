@@ -1,4 +1,4 @@
-ghost use Rattle.std.specs.Prelude.{◌≡◌, ◌<◌, ◌≤◌, ◌^◌, ◌∷◌, [], nat_eq, length, codes, IfOk, OnOk};
+ghost use Rattle.std.specs.Prelude.{◌≡◌, ◌+◌, ◌<◌, ◌≤◌, ◌^◌, ◌∷◌, [], nat_eq, length, codes, IfOk, OnOk};
 ghost use Rattle.std.specs.Cmp.Lexicographic.{pointwise};
 ghost use Rattle.indexmap.specs.IndexMap.{insert_entry};
 ghost use Rattle.dp_lines.specs.Allowed.{IsAllowed};
@@ -319,6 +319,18 @@ fn given_scaffolds(rt: HostRuntime) -> Result<(), Fail> {
     Ok(())
 }
 
+// The next bytes, at most so many.
+fn piece_of(text: &[u8], came: usize, size: usize) -> &[u8]
+    requires left { came < length text.now }
+    requires some { 0 < size }
+    ensures some { 0 < length result.now }
+    ensures within { came + length result.now ≤ length text.now }
+{
+    let (_, rest) = text.split_at(came);
+    let (piece, _) = rest.split_at(size.min(rest.len()));
+    piece
+}
+
 // The answer for a text that comes in pieces of so many bytes, and how many had come where a piece answers.
 fn in_pieces<J: LineJudge + Drop>(
     mut judge: J,
@@ -331,11 +343,11 @@ fn in_pieces<J: LineJudge + Drop>(
 {
     let mut came = 0;
     while came < text.len() {
-        let (_, rest) = text.split_at(came);
-        let (piece, _) = rest.split_at(size.min(rest.len()));
+        let piece = piece_of(text, came, size);
         came += piece.len();
-        if let Some(answer) = judge.feed(piece)? {
-            return Ok((answer, Some(came)));
+        match judge.feed(piece)? {
+            Some(answer) => return Ok((answer, Some(came))),
+            None => {}
         }
     }
     Ok((judge.finish()?, None))

@@ -1,4 +1,4 @@
-ghost use Rattle.std.specs.Prelude.{◌≤◌, ◌<◌, length};
+ghost use Rattle.std.specs.Prelude.{◌+◌, ◌<◌, ◌≤◌, length};
 
 use super::*;
 use dp_checker::Why;
@@ -158,6 +158,18 @@ fn refused_logs(rt: HostRuntime) -> Result<(), Fail> {
     Ok(())
 }
 
+/// The next bytes, at most so many.
+fn piece_of(text: &[u8], came: usize, size: usize) -> &[u8]
+    requires left { came < length text.now }
+    requires some { 0 < size }
+    ensures some { 0 < length result.now }
+    ensures within { came + length result.now ≤ length text.now }
+{
+    let (_, rest) = text.split_at(came);
+    let (piece, _) = rest.split_at(size.min(rest.len()));
+    piece
+}
+
 /// What is shown of a log that comes in pieces of so many bytes, and how many had come where a piece answers.
 fn in_pieces(alloc: Global, log: &[u8], size: usize) -> Result<(Shown, Option<usize>), Memory>
     requires few { length log.now ≤ 1000 }
@@ -166,11 +178,11 @@ fn in_pieces(alloc: Global, log: &[u8], size: usize) -> Result<(Shown, Option<us
     let mut showing = Showing::new(alloc)?;
     let mut came = 0;
     while came < log.len() {
-        let (_, rest) = log.split_at(came);
-        let (piece, _) = rest.split_at(size.min(rest.len()));
+        let piece = piece_of(log, came, size);
         came += piece.len();
-        if let Some(shown) = showing.feed(piece)? {
-            return Ok((shown, Some(came)));
+        match showing.feed(piece)? {
+            Some(shown) => return Ok((shown, Some(came))),
+            None => {}
         }
     }
     Ok((showing.finish()?, None))

@@ -2,11 +2,11 @@
 use Rattle.std.specs.Prelude.{ℕ, ◌-◌, ◌≤◌, List, length}
 use Rattle.dp_scaffold.proofs.tests.in_pieces.Given as goal
 
-abbrev pub invariant-loop-rest : goal.invariant-loop-rest
-invariant-loop-rest g l = record {
-  within : l.came ≤ length l.text.now;
+abbrev pub invariant-loop-came : goal.invariant-loop-came
+invariant-loop-came g l = record {
+  within : l.came ≤ length l.text;
   behind : (front : List ℕ) × g.J.LineJudge.behind l.judge front × (length front ≤ l.came);
 }
 
-abbrev pub decreases-loop-rest : goal.decreases-loop-rest
-decreases-loop-rest g l = length l.text.now - l.came
+abbrev pub decreases-loop-came : goal.decreases-loop-came
+decreases-loop-came g l = length l.text - l.came
