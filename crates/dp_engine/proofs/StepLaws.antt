@@ -19,7 +19,7 @@ use Rattle.dp_engine.specs.Placed.{AreSound, IsSound, Placed}
 use Rattle.dp_engine.specs.Turns.{applied, atoms_of, first, told, told_or_quiet, turn_at}
 use Rattle.dp_engine.specs.Woken.{ArePlaces, IsCounted, IsFirstWoken, IsFound, IsIndex, IsSearched, Rest, entered, owed_of, places_on, touch, with_woken, woken_after}
 use Rattle.dp_engine.proofs.SearchSteps.{Each-at}
-use Rattle.dp_engine.proofs.TurnLaws.{sound-turn, taking}
+use Rattle.dp_engine.proofs.TurnLaws.{sound-turn, taking, turn-alive}
 use Rattle.dp_engine.proofs.WokenLaws.{entered-length, index-push, length-places_on, owed-rest, places_on-below, rest-turn, with_woken-length, with_woken-owed}
 
 item_same : {A : Type 0} (x y : A) → ◌≡◌ {A = Option A} (Some x) (Some y) → x ≡ y
@@ -208,6 +208,13 @@ rest-applied n parts lists ws d place (Atom id a) sound index alive on found r =
 rest-applied n parts lists ws d place (Clash id) sound index alive on found r = r
 rest-applied n parts lists ws d place Quiet sound index alive on found r = r
 rest-applied n parts lists ws d place Empty sound index alive on found r = r
+
+-- a turn's atom leaves each variable a value
+pub applied-alive : (n : ℕ) (parts : List Placed) (d : Domains) (t : Turn) → AreSound n parts → is_dead d ≡ false → t ≡ turn_at parts d → is_dead (applied d t) ≡ false
+applied-alive n parts d (Atom id a) sound alive e = turn-alive n parts d id a sound (sym e)
+applied-alive n parts d (Clash id) sound alive e = alive
+applied-alive n parts d Quiet sound alive e = alive
+applied-alive n parts d Empty sound alive e = alive
 
 pub woken_after-length : (ws : List Bool) (lists : List (List ℕ)) (place : ℕ) (t : Turn) → length (woken_after ws lists place t) ≡ length ws
 woken_after-length ws lists place (Atom id a) = with_woken-length (set ws place false) (get_or lists a.var []) ∙ length-set ws place false

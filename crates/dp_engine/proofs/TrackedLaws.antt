@@ -2,7 +2,7 @@
 use Rattle.std.proofs.Common.{◌≡◌, ℕ, ◌^◌, ◌+◌, ◌-◌, ◌<◌, Bool, true, List, [], ◌∷◌, ◌++◌, length, map, get_or, refl, sym, ◌∙◌, ap, subst, arith, length-append}
 use Rattle.dp_base.specs.Lists.{Each}
 use Rattle.dp_domain.specs.Atoms.{Atomic}
-use Rattle.dp_domain.specs.States.{AreOf, Domains}
+use Rattle.dp_domain.specs.States.{AreOf, Domains, is_dead}
 use Rattle.dp_parts.specs.Problems.{Csp, IsProblem, posed}
 use Rattle.dp_rule_clause.specs.NogoodLaws.{nogood_lawful}
 use Rattle.dp_rule_clause.specs.Nogoods.{face_nogood, scope_of}
@@ -22,9 +22,9 @@ abbrev pub seen : Csp → List (List Atomic) → List Domains → Domains → Li
 seen p ns past d ws = record { problem = p; nogoods = ns; past = past; present = d; owed = owed_of ws }
 
 -- at other states, with other parts woken
-pub tracked-moved : (p : Csp) (roster : Listed) (lists : List (List ℕ)) (past later : List Domains) (d e : Domains) (ws vs : List Bool) → IsTracked (seen p roster.nogoods past d ws) roster lists ws
-    → HaveCount (length p.initial) (later ++ e ∷ []) → length vs ≡ length ws → Rest (turn_order (posed p) roster.nogoods) vs e → IsTracked (seen p roster.nogoods later e vs) roster lists vs
-tracked-moved p roster lists past later d e ws vs t states count rest = record {
+pub tracked-moved : (p : Csp) (roster : Listed) (lists : List (List ℕ)) (past later : List Domains) (d e : Domains) (ws vs : List Bool) (was dead : Bool) → IsTracked (seen p roster.nogoods past d ws) roster lists ws was
+    → HaveCount (length p.initial) (later ++ e ∷ []) → length vs ≡ length ws → Rest (turn_order (posed p) roster.nogoods) vs e → dead ≡ is_dead e → IsTracked (seen p roster.nogoods later e vs) roster lists vs dead
+tracked-moved p roster lists past later d e ws vs was dead t states count rest known = record {
   engine = record {
     problem = t.engine.problem;
     few = t.engine.few;
@@ -36,13 +36,14 @@ tracked-moved p roster lists past later d e ws vs t states count rest = record {
   count = count ∙ t.count;
   index = t.index;
   rest = rest;
+  known = known;
 }
 
 -- a new engine, whose parts are all woken
-pub tracked-new : (p : Csp) (roster : Listed) (lists : List (List ℕ)) (past : List Domains) (d : Domains) (ws : List Bool) (ns : List (List Atomic)) (m k : ℕ) → IsProblem p → length ns < 2 ^ 32
+pub tracked-new : (p : Csp) (roster : Listed) (lists : List (List ℕ)) (past : List Domains) (d : Domains) (ws : List Bool) (dead : Bool) (ns : List (List Atomic)) (m k : ℕ) → IsProblem p → length ns < 2 ^ 32
     → Each (AreOf p.initial) ns → roster.nogoods ≡ ns → all_placed roster ≡ turn_order (posed p) ns → past ≡ [] → d ≡ p.initial → m ≡ length p.initial → IsIndex m (all_placed roster) lists
-    → k ≡ length (all_placed roster) → length ws ≡ k → ((j : ℕ) → get_or ws j true ≡ true) → IsTracked (seen p roster.nogoods past d ws) roster lists ws
-tracked-new p roster lists past d ws ns m k kept few on en ep e0 ed em index ek ew all =
+    → k ≡ length (all_placed roster) → length ws ≡ k → ((j : ℕ) → get_or ws j true ≡ true) → dead ≡ is_dead d → IsTracked (seen p roster.nogoods past d ws) roster lists ws dead
+tracked-new p roster lists past d ws dead ns m k kept few on en ep e0 ed em index ek ew all known =
     let parts : all_placed roster ≡ turn_order (posed p) roster.nogoods = ep ∙ ap (turn_order (posed p)) (sym en) in
     let count : length ws ≡ length (turn_order (posed p) roster.nogoods) = ew ∙ ek ∙ ap (λ (qs : List Placed). length qs) parts in
     record {
@@ -57,16 +58,17 @@ tracked-new p roster lists past d ws ns m k kept few on en ep e0 ed em index ek 
       count = count;
       index = subst (λ (qs : List Placed). IsIndex (length p.initial) qs lists) parts (subst (λ n. IsIndex n (all_placed roster) lists) em index);
       rest = rest-none (turn_order (posed p) roster.nogoods) ws d all;
+      known = known;
     }
 
 -- the part of a nogood behind so many
 abbrev behind : List (List Atomic) → List Atomic → Placed
 behind ns n = record { id = Nogood (length ns); face = face_nogood n }
 
-added_roster : (p : Csp) (model : Listed) (lists : List (List ℕ)) (past : List Domains) (d : Domains) (ws : List Bool) (n : List Atomic) → IsTracked (seen p model.nogoods past d ws) model lists ws
+added_roster : (p : Csp) (model : Listed) (lists : List (List ℕ)) (past : List Domains) (d : Domains) (ws : List Bool) (dead : Bool) (n : List Atomic) → IsTracked (seen p model.nogoods past d ws) model lists ws dead
     → length model.nogoods < 2 ^ 32 - 1 → AreOf p.initial n
-    → IsTracked (seen p (model.nogoods ++ n ∷ []) past d (ws ++ true ∷ [])) (record { model = model.model; nogoods = model.nogoods ++ n ∷ [] }) (entered lists (length (all_placed model)) (scope_of n)) (ws ++ true ∷ [])
-added_roster p roster lists past d ws n t few on =
+    → IsTracked (seen p (model.nogoods ++ n ∷ []) past d (ws ++ true ∷ [])) (record { model = model.model; nogoods = model.nogoods ++ n ∷ [] }) (entered lists (length (all_placed model)) (scope_of n)) (ws ++ true ∷ []) dead
+added_roster p roster lists past d ws dead n t few on =
     let ns : List (List Atomic) = roster.nogoods in
     let parts : List Placed = turn_order (posed p) ns in
     let q : Placed = behind ns n in
@@ -87,15 +89,16 @@ added_roster p roster lists past d ws n t few on =
       index = subst (λ (qs : List Placed). IsIndex (length p.initial) qs (entered lists (length (all_placed roster)) (scope_of n))) (sym more)
           (subst (λ k. IsIndex (length p.initial) (parts ++ q ∷ []) (entered lists k (scope_of n))) (sym as_many) (index-push (length p.initial) parts lists q t.index sound));
       rest = subst (λ (qs : List Placed). Rest qs (ws ++ true ∷ []) d) (sym more) (rest-push parts ws d q t.count t.rest);
+      known = t.known;
     }
 
 -- with one nogood more, which is woken
-pub tracked-added : (p : Csp) (old now : Listed) (lists later : List (List ℕ)) (past : List Domains) (d : Domains) (ws vs : List Bool) (n : List Atomic) → IsTracked (seen p old.nogoods past d ws) old lists ws
+pub tracked-added : (p : Csp) (old now : Listed) (lists later : List (List ℕ)) (past : List Domains) (d : Domains) (ws vs : List Bool) (dead : Bool) (n : List Atomic) → IsTracked (seen p old.nogoods past d ws) old lists ws dead
     → length old.nogoods < 2 ^ 32 - 1 → AreOf p.initial n → now.model ≡ old.model → now.nogoods ≡ old.nogoods ++ n ∷ [] → later ≡ entered lists (length (all_placed old)) (scope_of n) → vs ≡ ws ++ true ∷ []
-    → IsTracked (seen p now.nogoods past d vs) now later vs
-tracked-added p old now lists later past d ws vs n t few on em en el ev =
-    subst (λ (us : List Bool). IsTracked (seen p now.nogoods past d us) now later us) (sym ev)
-    (subst (λ (ls : List (List ℕ)). IsTracked (seen p now.nogoods past d (ws ++ true ∷ [])) now ls (ws ++ true ∷ [])) (sym el)
-    (subst (λ m. IsTracked (seen p now.nogoods past d (ws ++ true ∷ [])) (record { model = m; nogoods = now.nogoods }) (entered lists (length (all_placed old)) (scope_of n)) (ws ++ true ∷ [])) (sym em)
-    (subst (λ (ms : List (List Atomic)). IsTracked (seen p ms past d (ws ++ true ∷ [])) (record { model = old.model; nogoods = ms }) (entered lists (length (all_placed old)) (scope_of n)) (ws ++ true ∷ [])) (sym en)
-    (added_roster p old lists past d ws n t few on))))
+    → IsTracked (seen p now.nogoods past d vs) now later vs dead
+tracked-added p old now lists later past d ws vs dead n t few on em en el ev =
+    subst (λ (us : List Bool). IsTracked (seen p now.nogoods past d us) now later us dead) (sym ev)
+    (subst (λ (ls : List (List ℕ)). IsTracked (seen p now.nogoods past d (ws ++ true ∷ [])) now ls (ws ++ true ∷ []) dead) (sym el)
+    (subst (λ m. IsTracked (seen p now.nogoods past d (ws ++ true ∷ [])) (record { model = m; nogoods = now.nogoods }) (entered lists (length (all_placed old)) (scope_of n)) (ws ++ true ∷ []) dead) (sym em)
+    (subst (λ (ms : List (List Atomic)). IsTracked (seen p ms past d (ws ++ true ∷ [])) (record { model = old.model; nogoods = ms }) (entered lists (length (all_placed old)) (scope_of n)) (ws ++ true ∷ []) dead) (sym en)
+    (added_roster p old lists past d ws dead n t few on))))

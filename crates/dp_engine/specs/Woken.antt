@@ -92,13 +92,15 @@ IsSearched parts d woken before now (Some found) = (now ≤ before + 1) × IsFou
 abbrev pub ArePlaces : ℕ → List (List ℕ) → Type 0
 ArePlaces n lists = (x : ℕ) → Each (λ k. k < n) (get_or lists x [])
 
--- what an engine keeps of its parts: they are those of the roster, the index has them by their variables, and those that are not woken have no turn
-pub record IsTracked (e : Propagation) (roster : Listed) (lists : List (List ℕ)) (woken : List Bool) : Type 0 where
+-- what an engine keeps of its parts: they are those of the roster, the index has them by their variables, those that are not woken
+-- have no turn, and it is known whether some variable has no value left
+pub record IsTracked (e : Propagation) (roster : Listed) (lists : List (List ℕ)) (woken : List Bool) (dead : Bool) : Type 0 where
   pub engine : IsEngine e
   pub parts : all_placed roster ≡ parts_of e
   pub count : length woken ≡ length (parts_of e)
   pub index : IsIndex (length e.problem.initial) (parts_of e) lists
   pub rest : Rest (parts_of e) woken e.present
+  pub known : dead ≡ is_dead e.present
 
 -- the first place at which a part is woken
 pub record IsFirstWoken (woken : List Bool) (place : ℕ) : Type 0 where

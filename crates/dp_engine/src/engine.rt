@@ -28,6 +28,7 @@ pub struct Engine<'p> {
     occurrences: Occurrences,
     woken: Woken,
     trail: Trail,
+    dead: bool,
 }
 
 impl<'p> Model for Engine<'p> {
@@ -38,7 +39,7 @@ impl<'p> Model for Engine<'p> {
 
     ghost view = { λ e. record { problem = e.problem.now; nogoods = e.roster.nogoods; past = e.trail.past; present = e.trail.present; owed = owed_of e.woken } };
 
-    ghost invariant = { λ e. IsTracked (record { problem = e.problem.now; nogoods = e.roster.nogoods; past = e.trail.past; present = e.trail.present; owed = owed_of e.woken }) e.roster e.occurrences e.woken };
+    ghost invariant = { λ e. IsTracked (record { problem = e.problem.now; nogoods = e.roster.nogoods; past = e.trail.past; present = e.trail.present; owed = owed_of e.woken }) e.roster e.occurrences e.woken e.dead };
 }
 
 impl<'p> Engine<'p> {
@@ -56,12 +57,14 @@ impl<'p> Engine<'p> {
         let present = problem.initial().copy()?;
         let occurrences = roster.occurrences(alloc, present.len())?;
         let woken = Woken::all(alloc, roster.len())?;
+        let dead = present.dead();
         Ok(Engine {
             problem,
             roster,
             occurrences,
             woken,
             trail: Trail::new(alloc, present),
+            dead,
         })
     }
 
@@ -87,15 +90,17 @@ impl<'p> Engine<'p> {
         let cut = cut_each(&mut self.trail, &mut self.woken, &self.occurrences, atoms);
         if cut.is_err() {
             go_back(&mut self.trail, &mut self.woken, &self.occurrences, mark);
+            self.dead = self.trail.present().dead();
             return Err(Memory);
         }
-        Ok(!self.trail.present().dead())
+        self.dead = self.trail.present().dead();
+        Ok(!self.dead)
     }
 
     /// The turn at the present state, which is then applied: Empty exactly where some variable has no
     /// value left; else what the first part gives that clashes, or from which a new atom follows; else
-    /// Quiet. Want of memory leaves the engine's parts and states as they were. Each part that is asked ticks once, and only parts
-    /// that are owed a search are asked.
+    /// Quiet. Want of memory leaves the engine's parts and states as they were. Only woken parts are
+    /// asked, each of which ticks once.
     pub fn step<L: Ledger>(&mut self, steps: &mut Steps<L>) -> Result<Turn, Memory>
         ensures turn { IfOk result (λ turn. turn ≡ turn_at (parts_of self.old) self.old.present) }
         ensures meaning { IfOk result (IsTurnAt (parts_of self.old) self.old.present) }
@@ -105,10 +110,10 @@ impl<'p> Engine<'p> {
         ensures unchanged { OnErr result (KeepsStates self.old self.new) }
         ensures counted { (searches : ℕ) × (steps.new ≡ steps.old + searches) × MatchResult result (IsCounted (parts_of self.old) self.old.owed searches self.new.owed) (λ e. searches + self.new.owed ≤ self.old.owed + 1) }
     {
-        let state = self.trail.present();
-        if state.dead() {
+        if self.dead {
             return Ok(Turn::Empty);
         }
+        let state = self.trail.present();
         let found = first_turn(&self.roster, &mut self.woken, state, steps)?;
         match found {
             None => Ok(Turn::Quiet),
@@ -139,6 +144,7 @@ impl<'p> Engine<'p> {
         ensures states { states self.new ≡ take (mark + 1) (states self.old) }
     {
         go_back(&mut self.trail, &mut self.woken, &self.occurrences, mark);
+        self.dead = self.trail.present().dead();
     }
 
     /// Adds a nogood at the next place. Want of memory leaves the engine as it was.

@@ -12,8 +12,8 @@ use crate::woken::Woken;
 use dp_domain::{Memory, State, Steps};
 use std::sync::ledger::Ledger;
 
-/// The turn of the first part that has one, with the part's place. Woken parts alone are asked, in order, and those without a turn
-/// are put to rest.
+/// The turn of the first part that has one, with the part's place. Woken parts alone are asked, in
+/// order, and those without a turn are put to rest.
 pub fn first_turn<L: Ledger>(
     roster: &Roster,
     woken: &mut Woken,

@@ -18,5 +18,5 @@ invariant_of-self-else-is_err c =
     let few : length c.self.inside.roster.nogoods < 2 ^ 32 - 1 = subst (λ (p : Propagation). length p.nogoods < 2 ^ 32 - 1) (sym c.self.view_is) c.requires.few in
     let on : AreOf c.self.inside.problem.now.initial c.args.nogood = subst (λ (p : Propagation). AreOf p.problem.initial c.args.nogood) (sym c.self.view_is) c.requires.variables in
     let fine = sym c.is_err.ensures.value ∙ c.if-is_err.false in
-    tracked-added c.self.inside.problem.now c.self.inside.roster c.add-added.new.self c.self.inside.occurrences c.add-added.new.occurrences c.self.inside.trail.past c.self.inside.trail.present c.self.inside.woken c.push.new.self c.args.nogood
+    tracked-added c.self.inside.problem.now c.self.inside.roster c.add-added.new.self c.self.inside.occurrences c.add-added.new.occurrences c.self.inside.trail.past c.self.inside.trail.present c.self.inside.woken c.push.new.self c.self.inside.dead c.args.nogood
     c.self.invariant few on c.add-added.ensures.model (ok-part c.add-added.result fine c.add-added.ensures.nogoods) (ok-part c.add-added.result fine c.add-added.ensures.entered) c.in_ok-push.ensures.pushed

@@ -1,5 +1,5 @@
 use Rattle.std.proofs.Common.{◌≡◌, List, length, sym, ◌∙◌, ap, subst}
-use Rattle.dp_domain.specs.States.{Domains}
+use Rattle.dp_domain.specs.States.{Domains, is_dead}
 use Rattle.dp_parts.specs.Problems.{posed}
 use Rattle.dp_engine.specs.Placed.{AreSound, Placed, turn_order}
 use Rattle.dp_engine.proofs.PlacedLaws.{problem-sound}
@@ -16,6 +16,7 @@ occurrences-requires c =
 pub invariant_of-result : goal.invariant_of-result
 invariant_of-result c =
     let present = c.in_ok-present.ensures ∙ c.initial.ensures.state in
-    tracked-new c.args.problem.now c.in_ok-roster.roster c.in_ok-occurrences.occurrences c.new-2.result.past c.new-2.result.present c.in_ok-woken.woken c.args.nogoods.now c.len.result c.len-2.result
+    tracked-new c.args.problem.now c.in_ok-roster.roster c.in_ok-occurrences.occurrences c.new-2.result.past c.new-2.result.present c.in_ok-woken.woken c.dead-dead.result c.args.nogoods.now c.len.result c.len-2.result
     c.initial.ensures.problem c.requires.few c.requires.nogoods c.in_ok-roster.ensures.nogoods c.in_ok-roster.ensures.parts c.new-2.ensures.past (c.new-2.ensures.present ∙ present)
     (c.len.ensures.count ∙ ap (λ (d : Domains). length d) present) c.in_ok-occurrences.ensures c.len-2.ensures c.in_ok-woken.ensures.count c.in_ok-woken.ensures.all
+    (c.dead-dead.ensures ∙ ap is_dead (sym c.new-2.ensures.present))

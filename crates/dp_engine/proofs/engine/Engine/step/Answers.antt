@@ -13,7 +13,7 @@ use Rattle.dp_engine.specs.Woken.{ArePlaces, IsCounted, Rest, owed_of, woken_aft
 use Rattle.dp_engine.proofs.EngineSteps.{turn-meant, turn-of_problem}
 use Rattle.dp_engine.proofs.PlacedLaws.{problem-sound}
 use Rattle.dp_engine.proofs.StateSteps.{counted-last}
-use Rattle.dp_engine.proofs.StepLaws.{counted-err, counted-quiet, counted-step, found-facts, places-below, quiet-facts, rest-applied, woken_after-length}
+use Rattle.dp_engine.proofs.StepLaws.{applied-alive, counted-err, counted-quiet, counted-step, found-facts, places-below, quiet-facts, rest-applied, woken_after-length}
 use Rattle.dp_engine.proofs.TrackedLaws.{tracked-moved}
 use Rattle.dp_engine.proofs.TurnLaws.{turn-atoms}
 use Rattle.dp_engine.proofs.engine.Engine.step.Goals as goal
@@ -26,7 +26,7 @@ first_turn-requires g c =
       count = c.self.invariant.count ∙ ap (λ (qs : List Placed). length qs) (sym c.self.invariant.parts);
       sound = subst (λ (d : Domains). AreSound (length d) (all_placed c.self.inside.roster)) (sym c.present-state.ensures)
           (subst (λ (qs : List Placed). AreSound (length c.self.inside.trail.present) qs) (sym c.self.invariant.parts) (subst (λ n. AreSound n (turn_order (posed c.self.inside.problem.now) c.self.inside.roster.nogoods)) (sym count) sound));
-      alive = sym c.dead.ensures ∙ c.if-dead.false;
+      alive = ap is_dead c.present-state.ensures ∙ sym c.self.invariant.known ∙ c.if-self.false;
       rest = subst (λ (d : Domains). Rest (all_placed c.self.inside.roster) c.self.inside.woken d) (sym c.present-state.ensures)
           (subst (λ (qs : List Placed). Rest qs c.self.inside.woken c.self.inside.trail.present) (sym c.self.invariant.parts) c.self.invariant.rest);
     }
@@ -48,8 +48,8 @@ pub invariant_of-self : goal.invariant_of-self
 invariant_of-self g c =
     let rest : Rest (turn_order (posed c.self.inside.problem.now) c.self.inside.roster.nogoods) c.first_turn.new.woken c.self.inside.trail.present = subst (λ (qs : List Placed). Rest qs c.first_turn.new.woken c.self.inside.trail.present) c.self.invariant.parts
     (subst (λ (d : Domains). Rest (all_placed c.self.inside.roster) c.first_turn.new.woken d) c.present-state.ensures c.first_turn.ensures.rest) in
-    tracked-moved c.self.inside.problem.now c.self.inside.roster c.self.inside.occurrences c.self.inside.trail.past c.self.inside.trail.past c.self.inside.trail.present c.self.inside.trail.present c.self.inside.woken c.first_turn.new.woken
-    c.self.invariant c.self.invariant.engine.states c.first_turn.ensures.count rest
+    tracked-moved c.self.inside.problem.now c.self.inside.roster c.self.inside.occurrences c.self.inside.trail.past c.self.inside.trail.past c.self.inside.trail.present c.self.inside.trail.present c.self.inside.woken c.first_turn.new.woken c.self.inside.dead c.self.inside.dead
+    c.self.invariant c.self.invariant.engine.states c.first_turn.ensures.count rest c.self.invariant.known
 
 pub returns-in_err-found-clause-counted : goal.returns-in_err-found-clause-counted
 returns-in_err-found-clause-counted g c =
@@ -60,12 +60,13 @@ pub invariant_of-self-in_err-apply-in-Some : goal.invariant_of-self-in_err-apply
 invariant_of-self-in_err-apply-in-Some g c =
     let rest : Rest (turn_order (posed c.self.inside.problem.now) c.self.inside.roster.nogoods) c.first_turn.new.woken c.self.inside.trail.present = subst (λ (qs : List Placed). Rest qs c.first_turn.new.woken c.self.inside.trail.present) c.self.invariant.parts
     (subst (λ (d : Domains). Rest (all_placed c.self.inside.roster) c.first_turn.new.woken d) c.present-state.ensures c.first_turn.ensures.rest) in
-    tracked-moved c.self.inside.problem.now c.self.inside.roster c.self.inside.occurrences c.self.inside.trail.past c.apply.new.trail.past c.self.inside.trail.present c.apply.new.trail.present c.self.inside.woken c.apply.new.woken
+    tracked-moved c.self.inside.problem.now c.self.inside.roster c.self.inside.occurrences c.self.inside.trail.past c.apply.new.trail.past c.self.inside.trail.present c.apply.new.trail.present c.self.inside.woken c.apply.new.woken c.self.inside.dead c.self.inside.dead
     c.self.invariant
     (c.apply.ensures.counts (length c.self.inside.problem.now.initial) c.self.invariant.engine.states)
     (ap (λ (vs : List Bool). length vs) c.in_err-apply-in-Some.ensures.woken_stays ∙ c.first_turn.ensures.count)
     (subst (λ (vs : List Bool). Rest (turn_order (posed c.self.inside.problem.now) c.self.inside.roster.nogoods) vs c.apply.new.trail.present) (sym c.in_err-apply-in-Some.ensures.woken_stays)
     (subst (λ (d : Domains). Rest (turn_order (posed c.self.inside.problem.now) c.self.inside.roster.nogoods) c.first_turn.new.woken d) (sym (ap (λ (t : Course). t.present) c.in_err-apply-in-Some.ensures.trail_stays)) rest))
+    (c.self.invariant.known ∙ ap (λ (t : Course). is_dead t.present) (sym c.in_err-apply-in-Some.ensures.trail_stays))
 
 pub returns-in_err-apply-in-Some-clause-counted : goal.returns-in_err-apply-in-Some-clause-counted
 returns-in_err-apply-in-Some-clause-counted g c =
@@ -83,13 +84,14 @@ invariant_of-self-in-Some g c =
     let rest : Rest (turn_order (posed c.self.inside.problem.now) c.self.inside.roster.nogoods) c.first_turn.new.woken c.self.inside.trail.present = subst (λ (qs : List Placed). Rest qs c.first_turn.new.woken c.self.inside.trail.present) c.self.invariant.parts
     (subst (λ (d : Domains). Rest (all_placed c.self.inside.roster) c.first_turn.new.woken d) c.present-state.ensures c.first_turn.ensures.rest) in
     let turn = rest-applied (length c.self.inside.problem.now.initial) (turn_order (posed c.self.inside.problem.now) c.self.inside.roster.nogoods) c.self.inside.occurrences c.first_turn.new.woken c.self.inside.trail.present c.in-Some.place c.in-Some.turn sound c.self.invariant.index
-    (ap is_dead (sym c.present-state.ensures) ∙ sym c.dead.ensures ∙ c.if-dead.false) (turn-atoms (length c.self.inside.problem.now.initial) (turn_order (posed c.self.inside.problem.now) c.self.inside.roster.nogoods) c.self.inside.trail.present c.in-Some.turn sound found.1.first) found.1 rest in
-    tracked-moved c.self.inside.problem.now c.self.inside.roster c.self.inside.occurrences c.self.inside.trail.past c.apply.new.trail.past c.self.inside.trail.present c.apply.new.trail.present c.self.inside.woken c.apply.new.woken
+    (sym c.self.invariant.known ∙ c.if-self.false) (turn-atoms (length c.self.inside.problem.now.initial) (turn_order (posed c.self.inside.problem.now) c.self.inside.roster.nogoods) c.self.inside.trail.present c.in-Some.turn sound found.1.first) found.1 rest in
+    tracked-moved c.self.inside.problem.now c.self.inside.roster c.self.inside.occurrences c.self.inside.trail.past c.apply.new.trail.past c.self.inside.trail.present c.apply.new.trail.present c.self.inside.woken c.apply.new.woken c.self.inside.dead c.self.inside.dead
     c.self.invariant
     (c.apply.ensures.counts (length c.self.inside.problem.now.initial) c.self.invariant.engine.states)
     (ap (λ (vs : List Bool). length vs) c.in_ok-apply-in-Some.ensures.woken ∙ woken_after-length c.first_turn.new.woken c.self.inside.occurrences c.in-Some.place c.in-Some.turn ∙ c.first_turn.ensures.count)
     (subst (λ (vs : List Bool). Rest (turn_order (posed c.self.inside.problem.now) c.self.inside.roster.nogoods) vs c.apply.new.trail.present) (sym c.in_ok-apply-in-Some.ensures.woken)
     (subst (λ (d : Domains). Rest (turn_order (posed c.self.inside.problem.now) c.self.inside.roster.nogoods) (woken_after c.first_turn.new.woken c.self.inside.occurrences c.in-Some.place c.in-Some.turn) d) (sym c.in_ok-apply-in-Some.ensures.present) turn))
+    (c.if-self.false ∙ sym (ap is_dead c.in_ok-apply-in-Some.ensures.present ∙ applied-alive (length c.self.inside.problem.now.initial) (turn_order (posed c.self.inside.problem.now) c.self.inside.roster.nogoods) c.self.inside.trail.present c.in-Some.turn sound (sym c.self.invariant.known ∙ c.if-self.false) found.1.first))
 
 pub returns-in-None-clause-meaning : goal.returns-in-None-clause-meaning
 returns-in-None-clause-meaning g c =

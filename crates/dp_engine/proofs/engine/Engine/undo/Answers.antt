@@ -1,4 +1,5 @@
-use Rattle.std.proofs.Common.{[], ◌∷◌, ◌++◌, ◌+◌, length, sym, ◌∙◌, subst}
+use Rattle.std.proofs.Common.{[], ◌∷◌, ◌++◌, ◌+◌, length, sym, ◌∙◌, ap, subst}
+use Rattle.dp_domain.specs.States.{is_dead}
 use Rattle.dp_parts.specs.Problems.{posed}
 use Rattle.dp_engine.specs.Placed.{turn_order}
 use Rattle.dp_engine.specs.Trails.{all_of}
@@ -20,9 +21,10 @@ go_back-requires-clause-places c =
 
 pub invariant_of-self : goal.invariant_of-self
 invariant_of-self c =
-    tracked-moved c.self.inside.problem.now c.self.inside.roster c.self.inside.occurrences c.self.inside.trail.past c.go_back.new.trail.past c.self.inside.trail.present c.go_back.new.trail.present c.self.inside.woken c.go_back.new.woken
+    tracked-moved c.self.inside.problem.now c.self.inside.roster c.self.inside.occurrences c.self.inside.trail.past c.go_back.new.trail.past c.self.inside.trail.present c.go_back.new.trail.present c.self.inside.woken c.go_back.new.woken c.self.inside.dead c.dead-self-inside.result
     c.self.invariant
     (counted-first (all_of c.self.inside.trail) (all_of c.go_back.new.trail) (c.args.mark + 1) (length c.self.inside.problem.now.initial) c.go_back.ensures.states c.self.invariant.engine.states)
     c.go_back.ensures.followed.bits
     (rest-followed (length c.self.inside.problem.now.initial) (turn_order (posed c.self.inside.problem.now) c.self.inside.roster.nogoods) c.self.inside.occurrences c.self.inside.woken c.go_back.new.woken c.self.inside.trail.present c.go_back.new.trail.present
     (problem-sound c.self.inside.problem.now c.self.inside.roster.nogoods c.self.invariant.engine.problem c.self.invariant.engine.nogoods) c.self.invariant.index c.go_back.ensures.followed c.self.invariant.rest)
+    (c.dead-self-inside.ensures ∙ ap is_dead c.present.ensures)
