@@ -31,16 +31,15 @@ use Rattle.dp_justify.specs.Keeping.{Explained, is_kept, kept, left, target_of}
 use Rattle.dp_justify.specs.Pieces.{answer_of, denial_of, end_of, explained, justification, kept_steps, nogood_at, parts_before, piece_of, start_of, step_of}
 use Rattle.dp_justify.specs.Replay.{Holds, IsReason, SpeaksOf}
 use Rattle.dp_justify.proofs.KeepLaws.{explanation-of}
-use Rattle.dp_justify.specs.Taking.{IsRunTurn, explained_of, face_or, found_of, seen, source_face}
+use Rattle.dp_justify.specs.Taking.{IsRunTurn, SeenTurn, explained_of, face_or, found_of, seen, source_face}
 use Rattle.dp_justify.specs.declared.kept.Kept.{Kept}
 use Rattle.dp_justify.specs.declared.piece.Piece.{Piece}
-use Rattle.dp_justify.specs.declared.turns.RunTurn.{RunTurn}
 use Rattle.dp_justify.proofs.NarrowLaws.{narrowed-cut_all, narrowed-refl}
 use Rattle.dp_justify.proofs.ReplayLaws.{replays}
 use Rattle.dp_justify.proofs.StepLaws.{nogood-before, step-holds}
 use Rattle.dp_justify.proofs.TakenLaws.{AreTaken, run-ends, run-good}
 
--- ---- turns as they are kept
+-- ---- turns as they are seen
 
 -- a turn's part stands at its place
 abbrev pub Stands : Posed → List (List Atomic) → Taken → Type 0
@@ -49,7 +48,7 @@ Stands p nogoods t = face_at p nogoods t.part.id ≡ Some t.part.face
 face_there : (p : Posed) (nogoods : List (List Atomic)) (t : Taken) → Stands p nogoods t → source_face p nogoods t.part.id ≡ t.part.face
 face_there p nogoods t e = ap face_or e
 
--- such a turn is kept with what its explanation asks for
+-- such a turn is seen with what its explanation asks for
 run_turn : (p : Posed) (nogoods : List (List Atomic)) (t : Taken) → Stands p nogoods t → IsExplainable t.part.face p.initial t.before (target_of t.found) → IsRunTurn p nogoods (seen t)
 run_turn p nogoods t e h = record {
   stands = e ∙ ap Some (sym (face_there p nogoods t e));
@@ -76,7 +75,7 @@ same_explained p nogoods t e =
     ap (λ (face : Face). explained_as p t face (found_of (target_of t.found))) (face_there p nogoods t e)
     ∙ ap (explained_as p t t.part.face) (found-target t.found)
 
--- what is kept of turns is explained as they are
+-- what is seen of turns is explained as they are
 pub all_explained : (p : Posed) (nogoods : List (List Atomic)) (ts : List Taken) → Each (Stands p nogoods) ts → map (explained_of p nogoods) (map seen ts) ≡ map (explained p.initial) ts
 all_explained p nogoods [] e = refl
 all_explained p nogoods (t ∷ ts) e =
@@ -138,7 +137,7 @@ module _ (p : Csp) (nogoods : List (List Atomic)) (place : ℕ) (asked : IsAsked
       each_stands [] h = tt
       each_stands (t ∷ ts) h = (placed-face (posed p) (take place nogoods) t.part (first-among (parts_before (posed p) nogoods place) t.before t h.0.first), each_stands ts h.1)
 
-  -- its turns are kept with what their explanations ask for
+  -- its turns are seen with what their explanations ask for
   pub run-seen : Each (IsRunTurn (posed p) (take place nogoods)) (map seen (run (parts_before (posed p) nogoods place) (start_of (posed p) nogoods place)))
   run-seen = run_turns_seen (posed p) earlier taken stand good.explainable
 
@@ -240,25 +239,24 @@ module _ (p : Csp) (nogoods : List (List Atomic)) (place : ℕ) (before : List (
   same_end : (end : Turn) → end ≡ run_end (parts_of e) e.present → end_of (posed p) nogoods place ≡ end
   same_end end k = sym (k ∙ ap (λ (parts : List Placed). run_end parts e.present) h.ready.parts ∙ ap (run_end (parts_before (posed p) nogoods place)) h.ready.present)
 
-  -- the turns as they are kept are those that an explanation is asked for
-  pub turns-asked : (turns all : List RunTurn) → turns ≡ all → all ≡ map seen (run (parts_of e) e.present) → Each (IsRunTurn (posed p) before) turns
-  turns-asked turns all f g =
+  -- the turns as they are seen are those that an explanation is asked for
+  pub turns-asked : (turns : List SeenTurn) → turns ≡ map seen (run (parts_of e) e.present) → Each (IsRunTurn (posed p) before) turns
+  turns-asked turns f =
       subst (λ (ns : List (List Atomic)). Each (IsRunTurn (posed p) ns) turns) (sym h.earlier)
-      (subst (λ (ts : List RunTurn). Each (IsRunTurn (posed p) (take place nogoods)) ts) (sym (f ∙ g ∙ ap (map seen) same_run)) (run-seen p nogoods place h.asked))
+      (subst (λ (ts : List SeenTurn). Each (IsRunTurn (posed p) (take place nogoods)) ts) (sym (f ∙ ap (map seen) same_run)) (run-seen p nogoods place h.asked))
 
   -- what the code makes of the kept turns
-  pub record IsMade (turns all : List RunTurn) (steps : List Kept) (piece : Piece) : Type 0 where
-    pub turns_are : turns ≡ all
-    pub all_are : all ≡ map seen (run (parts_of e) e.present)
+  pub record IsMade (turns : List SeenTurn) (steps : List Kept) (piece : Piece) : Type 0 where
+    pub turns_are : turns ≡ map seen (run (parts_of e) e.present)
     pub steps_are : steps ≡ map step_of (kept p.initial (map (explained_of (posed p) before) turns))
     pub piece_is : piece ≡ piece_of steps
 
-  module _ (turns all : List RunTurn) (steps : List Kept) (piece : Piece) (made : IsMade turns all steps piece) where
+  module _ (turns : List SeenTurn) (steps : List Kept) (piece : Piece) (made : IsMade turns steps piece) where
     -- it is that of the kept steps of the nogood's run
     piece_made : piece ≡ piece_of (kept_steps p.initial its_run)
     piece_made = made.piece_is ∙ ap piece_of (made.steps_are
         ∙ ap (λ (ns : List (List Atomic)). map step_of (kept p.initial (map (explained_of (posed p) ns) turns))) h.earlier
-        ∙ ap (λ (ts : List RunTurn). map step_of (kept p.initial (map (explained_of (posed p) (take place nogoods)) ts))) (made.turns_are ∙ made.all_are ∙ ap (map seen) same_run)
+        ∙ ap (λ (ts : List SeenTurn). map step_of (kept p.initial (map (explained_of (posed p) (take place nogoods)) ts))) (made.turns_are ∙ ap (map seen) same_run)
         ∙ run-explained p nogoods place h.asked)
 
     pub clash-justification : (end : Turn) (id : PartId) → end ≡ run_end (parts_of e) e.present → end ≡ Clashed id → Some piece ≡ justification (posed p) nogoods place

@@ -6,4 +6,5 @@ pub mod GoneLaws
 pub mod KeepLaws
 pub mod TestProblem
 pub mod RunSteps
+pub mod TrailSteps
 pub mod JustifyLaws

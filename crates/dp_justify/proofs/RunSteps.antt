@@ -1,4 +1,4 @@
--- The turns of a run, one by one, as the code keeps them.
+-- The turns of a run, one by one, as they are seen.
 use Rattle.std.proofs.Common.{◌≡◌, ℕ, ◌<◌, Bool, true, false, Option, Some, None, List, [], ◌∷◌, ◌++◌, map, refl, sym, ◌∙◌, ap, subst, append_assoc, inl, inr}
 use Rattle.dp_domain.specs.Atoms.{Atomic}
 use Rattle.dp_domain.specs.States.{Domains, cut, is_dead, total}
@@ -12,10 +12,9 @@ use Rattle.dp_engine.specs.declared.turn.Turn.TheVariants.{Atom as Gave, Clash a
 use Rattle.dp_engine.proofs.RunLaws.{end-atom, end-clash, end-dead, end-quiet, found_cases, run-atom, run-clash, run-dead, run-quiet, turn-dead, turn-quiet, turn-told}
 use Rattle.dp_engine.proofs.TurnLaws.{first-before, first-less}
 use Rattle.dp_justify.specs.Keeping.{target_of}
-use Rattle.dp_justify.specs.Taking.{end_of_run, said, seen}
-use Rattle.dp_justify.specs.declared.turns.RunTurn.{RunTurn}
+use Rattle.dp_justify.specs.Taking.{SeenTurn, end_of_run, said, seen}
 
--- what a turn is at the head of a run: what is kept of it, and what comes after it
+-- what a turn is at the head of a run: what is seen of it, and what comes after it
 pub record Heads (parts : List Placed) (d : Domains) (turn : Turn) : Type 0 where
   pub more : end_of_run turn ≡ None → (map seen (run parts d) ≡ said d turn ++ map seen (run parts (applied d turn))) × (run_end parts d ≡ run_end parts (applied d turn)) × (total (applied d turn) < total d)
   pub last : (end : Turn) → end_of_run turn ≡ Some end → (map seen (run parts d) ≡ said d turn) × (run_end parts d ≡ end)
@@ -35,17 +34,17 @@ last_heads parts d turn e f g = record {
 
 seen_as : (d : Domains) (t : Taken) (f : Found) → t.before ≡ d → t.found ≡ f → seen t ∷ [] ≡ said d (told t.part.id f)
 seen_as d t Clash e g =
-    ap (λ (b : Domains). let r : RunTurn = record { before = b; source = t.part.id; target = target_of t.found } in r ∷ []) e
-    ∙ ap (λ (f : Found). let r : RunTurn = record { before = d; source = t.part.id; target = target_of f } in r ∷ []) g
+    ap (λ (b : Domains). let r : SeenTurn = record { before = b; source = t.part.id; target = target_of t.found } in r ∷ []) e
+    ∙ ap (λ (f : Found). let r : SeenTurn = record { before = d; source = t.part.id; target = target_of f } in r ∷ []) g
 seen_as d t (Atom a) e g =
-    ap (λ (b : Domains). let r : RunTurn = record { before = b; source = t.part.id; target = target_of t.found } in r ∷ []) e
-    ∙ ap (λ (f : Found). let r : RunTurn = record { before = d; source = t.part.id; target = target_of f } in r ∷ []) g
+    ap (λ (b : Domains). let r : SeenTurn = record { before = b; source = t.part.id; target = target_of t.found } in r ∷ []) e
+    ∙ ap (λ (f : Found). let r : SeenTurn = record { before = d; source = t.part.id; target = target_of f } in r ∷ []) g
 
 atom_heads : (n : ℕ) (parts : List Placed) (d : Domains) (t : Taken) (a : Atomic) → AreSound n parts → is_dead d ≡ false → first parts d ≡ Some t → t.found ≡ Atom a → Heads parts d (Gave t.part.id a)
 atom_heads n parts d t a sound alive e g = record {
   more = λ k. (
     ap (map seen) (run-atom n parts d t a sound alive e g)
-        ∙ ap (λ (ts : List RunTurn). ts ++ map seen (run parts (cut d a))) (seen_as d t (Atom a) (first-before parts d t e) g),
+        ∙ ap (λ (ts : List SeenTurn). ts ++ map seen (run parts (cut d a))) (seen_as d t (Atom a) (first-before parts d t e) g),
     end-atom n parts d t a sound alive e g,
     first-less n parts d t a sound alive e g,
   );
@@ -71,27 +70,27 @@ turn-heads n parts d sound = head_step n parts d (is_dead d) (first parts d) sou
 -- ---- the loop
 
 -- the run from the first state is the turns so far and the run from the state
-pub record IsAlong (parts : List Placed) (start : Domains) (turns : List RunTurn) (d : Domains) : Type 0 where
+pub record IsAlong (parts : List Placed) (start : Domains) (turns : List SeenTurn) (d : Domains) : Type 0 where
   pub run : map seen (run parts start) ≡ turns ++ map seen (run parts d)
   pub end : run_end parts start ≡ run_end parts d
 
 pub along-start : (parts : List Placed) (start : Domains) → IsAlong parts start [] start
 along-start parts start = record { run = refl; end = refl }
 
-pub along-more : (n : ℕ) (parts : List Placed) (start d next : Domains) (turns now : List RunTurn) (end : Option Turn) → AreSound n parts → IsAlong parts start turns d → end ≡ end_of_run (turn_at parts d) → end ≡ None
+pub along-more : (n : ℕ) (parts : List Placed) (start d next : Domains) (turns now : List SeenTurn) (end : Option Turn) → AreSound n parts → IsAlong parts start turns d → end ≡ end_of_run (turn_at parts d) → end ≡ None
     → next ≡ applied d (turn_at parts d) → now ≡ turns ++ said d (turn_at parts d) → IsAlong parts start now next × (total next < total d)
 along-more n parts start d next turns now end sound h e none f g =
     let r = (turn-heads n parts d sound).more (sym e ∙ none) in (
       record {
-        run = h.run ∙ ap (λ (ts : List RunTurn). turns ++ ts) r.0 ∙ sym (append_assoc turns (said d (turn_at parts d)) (map seen (run parts (applied d (turn_at parts d)))))
-            ∙ ap (λ (ts : List RunTurn). ts ++ map seen (run parts (applied d (turn_at parts d)))) (sym g) ∙ ap (λ (b : Domains). now ++ map seen (run parts b)) (sym f);
+        run = h.run ∙ ap (λ (ts : List SeenTurn). turns ++ ts) r.0 ∙ sym (append_assoc turns (said d (turn_at parts d)) (map seen (run parts (applied d (turn_at parts d)))))
+            ∙ ap (λ (ts : List SeenTurn). ts ++ map seen (run parts (applied d (turn_at parts d)))) (sym g) ∙ ap (λ (b : Domains). now ++ map seen (run parts b)) (sym f);
         end = h.end ∙ r.1 ∙ ap (run_end parts) (sym f);
       },
       subst (λ (b : Domains). total b < total d) (sym f) r.2,
     )
 
-pub along-end : (n : ℕ) (parts : List Placed) (start d : Domains) (turns now : List RunTurn) (answer : Option Turn) (end : Turn) → AreSound n parts → IsAlong parts start turns d → answer ≡ end_of_run (turn_at parts d) → answer ≡ Some end
+pub along-end : (n : ℕ) (parts : List Placed) (start d : Domains) (turns now : List SeenTurn) (answer : Option Turn) (end : Turn) → AreSound n parts → IsAlong parts start turns d → answer ≡ end_of_run (turn_at parts d) → answer ≡ Some end
     → now ≡ turns ++ said d (turn_at parts d) → (now ≡ map seen (run parts start)) × (end ≡ run_end parts start)
 along-end n parts start d turns now answer end sound h e some g =
     let r = (turn-heads n parts d sound).last end (sym e ∙ some) in
-    (g ∙ ap (λ (ts : List RunTurn). turns ++ ts) (sym r.0) ∙ sym h.run, sym (h.end ∙ r.1))
+    (g ∙ ap (λ (ts : List SeenTurn). turns ++ ts) (sym r.0) ∙ sym h.run, sym (h.end ∙ r.1))

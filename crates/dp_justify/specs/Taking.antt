@@ -1,5 +1,7 @@
--- The turns of a run as the code keeps them: without the faces of parts, which are found again by their places.
-use Rattle.std.specs.Prelude.{◌≡◌, ℕ, ◌<◌, Option, Some, None, if◌then◌else◌, List, [], ◌∷◌, ◌++◌}
+-- The turns of a run as the code keeps them: without the faces of parts, which are found again by their places, and without the
+-- states before them, which are found again by their marks.
+use Rattle.std.specs.Prelude.{◌≡◌, ℕ, ◌<◌, ◌≤◌, Option, Some, None, if◌then◌else◌, List, [], ◌∷◌, ◌++◌, get_or, length}
+use Rattle.dp_base.specs.Lists.{Each}
 use Rattle.dp_domain.specs.Atoms.{Atomic}
 use Rattle.dp_domain.specs.Explanations.{explanation}
 use Rattle.dp_domain.specs.Faces.{Face}
@@ -20,8 +22,14 @@ use Rattle.dp_justify.specs.Pieces.{step_of}
 use Rattle.dp_justify.specs.declared.kept.Kept.{Kept}
 use Rattle.dp_justify.specs.declared.turns.RunTurn.{RunTurn}
 
--- a turn as it is kept
-abbrev pub seen : Taken → RunTurn
+-- a turn by the place of its part: the state before it, the part that gives it, and its atom; none where the part clashes
+pub record SeenTurn : Type 0 where
+  pub before : Domains
+  pub source : PartId
+  pub target : Option Atomic
+
+-- a turn by the place of its part
+abbrev pub seen : Taken → SeenTurn
 seen t = record { before = t.before; source = t.part.id; target = target_of t.found }
 
 -- what a part gives whose target this is
@@ -38,15 +46,15 @@ face_or (Some face) = face
 abbrev pub source_face : Posed → List (List Atomic) → PartId → Face
 source_face p nogoods id = face_or (face_at p nogoods id)
 
--- the turn that is kept so, with its explanation
-abbrev pub explained_of : Posed → List (List Atomic) → RunTurn → Explained
+-- the turn that is seen so, with its explanation
+abbrev pub explained_of : Posed → List (List Atomic) → SeenTurn → Explained
 explained_of p nogoods t = record {
   turn = record { before = t.before; part = record { id = t.source; face = source_face p nogoods t.source }; found = found_of t.target };
   premises = explanation (source_face p nogoods t.source) p.initial t.before t.target;
 }
 
 -- a part stands at the turn's place, and the turn has an explanation by it
-pub record IsRunTurn (p : Posed) (nogoods : List (List Atomic)) (t : RunTurn) : Type 0 where
+pub record IsRunTurn (p : Posed) (nogoods : List (List Atomic)) (t : SeenTurn) : Type 0 where
   pub stands : face_at p nogoods t.source ≡ Some (source_face p nogoods t.source)
   pub explainable : IsExplainable (source_face p nogoods t.source) p.initial t.before t.target
 
@@ -64,8 +72,8 @@ abbrev pub with_some : List Kept → Option Kept → List Kept
 with_some steps None = steps
 with_some steps (Some k) = steps ++ k ∷ []
 
--- what is kept of the turn at a state
-abbrev pub said : Domains → Turn → List RunTurn
+-- what is seen of the turn at a state
+abbrev pub said : Domains → Turn → List SeenTurn
 said d (Gave id a) = record { before = d; source = id; target = Some a } ∷ []
 said d (Clashed id) = record { before = d; source = id; target = None } ∷ []
 said d Quiet = []
@@ -77,3 +85,28 @@ end_of_run (Gave id a) = None
 end_of_run (Clashed id) = Some (Clashed id)
 end_of_run Quiet = Some Quiet
 end_of_run Empty = Some Empty
+
+-- what is kept of a turn, where the state before it stands at this mark
+abbrev pub noted : ℕ → Turn → List RunTurn
+noted mark (Gave id a) = record { mark = mark; source = id; target = Some a } ∷ []
+noted mark (Clashed id) = record { mark = mark; source = id; target = None } ∷ []
+noted mark Quiet = []
+noted mark Empty = []
+
+-- a turn that is kept, with the state before it
+abbrev pub seen_at : Domains → RunTurn → SeenTurn
+seen_at d t = record { before = d; source = t.source; target = t.target }
+
+-- a turn that is kept, with the state at its mark
+abbrev pub seen_among : List Domains → RunTurn → SeenTurn
+seen_among ds t = seen_at (get_or ds t.mark []) t
+
+-- no turn has a mark below that of one before it
+abbrev pub AreInOrder : List RunTurn → Type 0
+AreInOrder [] = Unit {0}
+AreInOrder (t ∷ ts) = Each (λ u. t.mark ≤ u.mark) ts × AreInOrder ts
+
+-- each turn has its mark among the states, in the order of the turns
+pub record IsTrail (ds : List Domains) (ts : List RunTurn) : Type 0 where
+  pub there : Each (λ t. t.mark < length ds) ts
+  pub ordered : AreInOrder ts

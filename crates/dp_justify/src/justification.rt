@@ -39,7 +39,7 @@ pub fn justify(problem: &Problem, nogoods: &[Nogood], place: usize) -> Result<Op
     let (turns, end) = run_turns(&mut engine)?;
     match end {
         Turn::Clash(_) => {
-            let steps = kept_turns(problem, earlier, turns.as_slice())?;
+            let steps = kept_turns(problem, earlier, &mut engine, turns)?;
             Ok(Some(piece(alloc, steps)?))
         }
         Turn::Empty => Ok(Some(piece(alloc, Vec::new(alloc))?)),

@@ -3,36 +3,40 @@
 ghost use Rattle.std.specs.Prelude.{◌≡◌, ℕ, ◌<◌, ◌&&◌, not, length, map, ℤ, IfOk, OnOk};
 ghost use Rattle.dp_base.specs.Lists.{Each};
 ghost use Rattle.dp_domain.specs.States.{AreOf};
+ghost use Rattle.dp_engine.specs.Engines.{states};
 ghost use Rattle.dp_parts.specs.Problems.{posed};
 ghost use Rattle.dp_justify.specs.Keeping.{before_turn, is_kept, kept, without};
 ghost use Rattle.dp_justify.specs.Pairs.{pairs_of};
 ghost use Rattle.dp_justify.specs.Pieces.{step_of};
-ghost use Rattle.dp_justify.specs.Taking.{IsBelow, IsRunTurn, explained_of, found_of, kept_step, with_some};
+ghost use Rattle.dp_justify.specs.Taking.{IsBelow, IsRunTurn, IsTrail, explained_of, found_of, kept_step, seen_among, seen_at, with_some};
 
 use crate::explain::explain;
 use crate::gone::{enter, leave, nothing, takes_one};
 use crate::turns::RunTurn;
 use crate::{Atoms, Kept};
-use dp_domain::{Atom, Dom, Memory};
+use dp_domain::{Atom, Dom, Memory, State};
+use dp_engine::Engine;
 use dp_parts::Problem;
 use dp_rule_clause::Nogood;
 
-/// The kept turns of a run that ended in a clash, each explained, in their order.
+/// The kept turns of a run that ended in a clash, each explained, in their order. The engine goes back
+/// over the run, to the state before each turn.
 pub(crate) fn kept_turns(
     problem: &Problem,
     nogoods: &[Nogood],
-    turns: &[RunTurn],
+    engine: &mut Engine,
+    mut turns: Vec<RunTurn>,
 ) -> Result<Vec<Kept>, Memory>
-    requires { Each (IsRunTurn (posed problem.now) nogoods.now) turns.now }
-    ensures { IfOk result (λ steps. steps.items ≡ map step_of (kept problem.now.initial (map (explained_of (posed problem.now) nogoods.now) turns.now))) }
+    requires trail { IsTrail (states engine.old) turns.items }
+    requires turns { Each (IsRunTurn (posed problem.now) nogoods.now) (map (seen_among (states engine.old)) turns.items) }
+    ensures { IfOk result (λ steps. steps.items ≡ map step_of (kept problem.now.initial (map (explained_of (posed problem.now) nogoods.now) (map (seen_among (states engine.old)) turns.items)))) }
 {
     let initial = problem.initial();
     let mut gone = nothing(initial.allocator(), initial.len())?;
     let mut steps = Vec::new(initial.allocator());
-    let count = turns.len();
-    for after in 0..count {
-        let turn = &turns[count - 1 - after];
-        let step = keep(problem, nogoods, &mut gone, turn)?;
+    while let Some(turn) = turns.pop() {
+        engine.undo(turn.mark);
+        let step = keep(problem, nogoods, &mut gone, engine.state(), &turn)?;
         push_some(&mut steps, step)?;
     }
     steps.reverse();
@@ -55,18 +59,19 @@ fn keep(
     problem: &Problem,
     nogoods: &[Nogood],
     gone: &mut Vec<Dom>,
+    before: &State,
     turn: &RunTurn,
 ) -> Result<Option<Kept>, Memory>
-    requires turn { IsRunTurn (posed problem.now) nogoods.now turn.now }
+    requires turn { IsRunTurn (posed problem.now) nogoods.now (seen_at before.now turn.now) }
     requires count { length gone.old.items ≡ length problem.now.initial }
     ensures count { length gone.new.items ≡ length gone.old.items }
-    ensures kept { IfOk result (λ step. step ≡ kept_step (pairs_of gone.old.items) (explained_of (posed problem.now) nogoods.now turn.now)) }
-    ensures pairs { OnOk result ((x : ℕ) → (v : ℤ) → pairs_of gone.new.items x v ≡ before_turn problem.now.initial (pairs_of gone.old.items) (explained_of (posed problem.now) nogoods.now turn.now) x v) }
+    ensures kept { IfOk result (λ step. step ≡ kept_step (pairs_of gone.old.items) (explained_of (posed problem.now) nogoods.now (seen_at before.now turn.now))) }
+    ensures pairs { OnOk result ((x : ℕ) → (v : ℤ) → pairs_of gone.new.items x v ≡ before_turn problem.now.initial (pairs_of gone.old.items) (explained_of (posed problem.now) nogoods.now (seen_at before.now turn.now)) x v) }
 {
-    if !is_kept(gone.as_slice(), turn)? {
+    if !is_kept(gone.as_slice(), before, turn.target)? {
         return Ok(None);
     }
-    let premises = explain(problem, nogoods, turn)?;
+    let premises = explain(problem, nogoods, before, turn)?;
     take_out(gone, turn.target)?;
     enter(gone, problem.initial(), premises.as_slice())?;
     Ok(Some(Kept {
@@ -76,15 +81,15 @@ fn keep(
     }))
 }
 
-/// Whether the turn is kept: it is a clash, or its atom excludes a pair that has to be gone and is still
-/// in the state before it.
-fn is_kept(gone: &[Dom], turn: &RunTurn) -> Result<bool, Memory>
-    requires gone { IsBelow (length gone.now) turn.now.target }
-    requires before { IsBelow (length turn.now.before) turn.now.target }
-    ensures { IfOk result (λ keeps. keeps ≡ is_kept (pairs_of gone.now) turn.now.before (found_of turn.now.target)) }
+/// Whether a turn at the state is kept: it is a clash, or its atom excludes a pair that has to be gone and
+/// is still in the state.
+fn is_kept(gone: &[Dom], before: &State, target: Option<Atom>) -> Result<bool, Memory>
+    requires gone { IsBelow (length gone.now) target }
+    requires before { IsBelow (length before.now) target }
+    ensures { IfOk result (λ keeps. keeps ≡ is_kept (pairs_of gone.now) before.now (found_of target)) }
 {
-    match turn.target {
-        Some(atom) => takes_one(gone, &turn.before, atom),
+    match target {
+        Some(atom) => takes_one(gone, before, atom),
         None => Ok(true),
     }
 }

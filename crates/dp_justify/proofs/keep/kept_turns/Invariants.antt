@@ -1,15 +1,19 @@
-use Rattle.std.proofs.Common.{◌≡◌, ◌-◌, length, map}
-use mathlib.Core.List.{reverse}
+use Rattle.std.proofs.Common.{◌≡◌, length, map}
+use Rattle.dp_base.specs.Lists.{Each}
+use Rattle.dp_engine.specs.Engines.{states}
 use Rattle.dp_parts.specs.Problems.{posed}
-use Rattle.dp_justify.specs.Keeping.{kept}
-use Rattle.dp_justify.specs.Pieces.{step_of}
-use Rattle.dp_justify.specs.Taking.{explained_of}
-use Rattle.dp_justify.proofs.KeepLaws.{AreGone, from_on}
+use Rattle.dp_justify.specs.Taking.{IsRunTurn, IsTrail, explained_of, seen_among}
+use Rattle.dp_justify.proofs.KeepLaws.{IsBack}
 use Rattle.dp_justify.proofs.keep.kept_turns.Given as goal
 
-abbrev pub invariant-loop-after : goal.invariant-loop-after
-invariant-loop-after l = record {
+abbrev pub invariant-loop-turn : goal.invariant-loop-turn
+invariant-loop-turn l = record {
   count : length l.gone.items ≡ length l.problem.initial;
-  gone : AreGone l.problem.initial (explained_of (posed l.problem) l.nogoods) l.turns (length l.turns - l.after) l.gone.items;
-  steps : l.steps.items ≡ reverse (map step_of (kept l.problem.initial (from_on l.problem.initial (explained_of (posed l.problem) l.nogoods) l.turns (length l.turns - l.after))));
+  trail : IsTrail (states l.engine) l.turns.items;
+  turns : Each (IsRunTurn (posed l.problem) l.nogoods) (map (seen_among (states l.engine)) l.turns.items);
+  back : IsBack l.problem.initial (map (explained_of (posed l.problem) l.nogoods) (map (seen_among (states l.initial.engine)) l.initial.turns.items))
+      (map (explained_of (posed l.problem) l.nogoods) (map (seen_among (states l.engine)) l.turns.items)) l.gone.items l.steps.items;
 }
+
+abbrev pub decreases-loop-turn : goal.decreases-loop-turn
+decreases-loop-turn l = length l.turns.items
