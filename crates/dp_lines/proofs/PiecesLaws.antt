@@ -2,7 +2,7 @@
 use Rattle.std.proofs.Common.{◌≡◌, ℕ, ◌+◌, ◌<◌, Bool, true, false, List, [], ◌∷◌, ◌++◌, length, append_assoc, Option, Some, None, Result, Ok, Err, refl, sym, ap, subst, ◌∙◌, arith}
 use Rattle.std.proofs.lemmas.List.{append-nil, length-append}
 use Rattle.dp_lines.specs.Answers.{UnlessMemory}
-use Rattle.dp_lines.specs.Lines.{Lines, lines, no_lines}
+use Rattle.dp_lines.specs.Lines.{lines}
 use Rattle.dp_lines.specs.Pieces.{HasRead}
 use Rattle.dp_lines.specs.RawLines.{raw_lines}
 use Rattle.dp_lines.specs.Readers.{State, after, IsStanding, answer_by, answer_of, closed, fed, fresh, left, left_unless, refusal_in, standing, step_from, step_of, step_unless, total}
@@ -107,7 +107,7 @@ called limits text given s now call piece more h order unended came gave stands 
   unended = unended;
   fed = fed_more h.calls (call ∷ []) ∙ ap (λ (t : List ℕ). t ++ fed_by (call ∷ [])) h.fed ∙ ap (λ (t : List ℕ). text ++ t) came;
   gave = run_gave h.calls (call ∷ []) (fresh limits) ∙ ap (λ (g : List (ℕ × Line)). g ++ (run (call ∷ []) (run h.calls (fresh limits)).state).given) h.gave
-    ∙ ap (λ (t : State). given ++ (run (call ∷ []) t).given) h.stands ∙ ap (λ (g : List (ℕ × Line)). given ++ g) gave;
+      ∙ ap (λ (t : State). given ++ (run (call ∷ []) t).given) h.stands ∙ ap (λ (g : List (ℕ × Line)). given ++ g) gave;
   stands = run_stands h.calls (call ∷ []) (fresh limits) ∙ ap (λ (t : State). (run (call ∷ []) t).state) h.stands ∙ stands;
   size = size;
 }

@@ -89,8 +89,8 @@ refused : (p : Posed) (front : List ℕ) (was : Result Gathered ScaffoldRefusal)
 refused p front was answer r s end n line refusal j is says e a = record {
   refuses = subst Refuses (sym a) tt;
   answered = λ more come.
-    let read : HasRead limits front (j.given ++ (n, line) ∷ []) end = line_read limits front j.given r s end n line j.read is says in
-    a ∙ sym (told p (front ++ more) was j.given n line (left (fed end more)) refusal j.going j.gathered e (lines_come limits front more (j.given ++ (n, line) ∷ []) end read come));
+      let read : HasRead limits front (j.given ++ (n, line) ∷ []) end = line_read limits front j.given r s end n line j.read is says in
+      a ∙ sym (told p (front ++ more) was j.given n line (left (fed end more)) refusal j.going j.gathered e (lines_come limits front more (j.given ++ (n, line) ∷ []) end read come));
 }
 
 -- a line that is given is taken, or refused by a test
@@ -118,12 +118,12 @@ brings_nothing p front was r s end j is says same = record {
   gathered = record { given = j.given; read = none_read limits front j.given r s end j.read is says; gathered = j.gathered; going = j.going };
   quiet = λ unended. quiet_of p front was j.given _ j.gathered j.going (so_far_read limits front j.given r s end j.read is says (sym same ∙ unended));
   whole = λ ended.
-    let e : s.ended ≡ true = sym same ∙ ended in
-    let ls : Lines = record { given = j.given; refusal = None } in
-    answer_of_lines p front ls (whole_read limits front j.given r s end j.read is says e)
-    ∙ ap (λ (k : Result Gathered ScaffoldRefusal). answer_after k ls (length (raw_lines front))) (sym j.gathered)
-    ∙ concluded was j.given (length (raw_lines front)) j.going
-    ∙ ap (λ n. give (scaffold_of was n)) (whole_count limits front j.given r s end j.read is says e);
+      let e : s.ended ≡ true = sym same ∙ ended in
+      let ls : Lines = record { given = j.given; refusal = None } in
+      answer_of_lines p front ls (whole_read limits front j.given r s end j.read is says e)
+      ∙ ap (λ (k : Result Gathered ScaffoldRefusal). answer_after k ls (length (raw_lines front))) (sym j.gathered)
+      ∙ concluded was j.given (length (raw_lines front)) j.going
+      ∙ ap (λ n. give (scaffold_of was n)) (whole_count limits front j.given r s end j.read is says e);
 }
 
 -- ---- a line cannot be read
@@ -138,11 +138,11 @@ pub brings_refusal : (p : Posed) (front : List ℕ) (was : Result Gathered Scaff
 brings_refusal p front was r s end refusal j is says = record {
   refuses = tt;
   answered = λ more come.
-    let read = unread_read limits front j.given r s end refusal j.read is says in
-    let ls : Lines = record { given = j.given; refusal = Some refusal } in
-    sym (answer_of_lines p (front ++ more) ls (refused_come limits front more j.given end refusal read.0 read.1 come)
-    ∙ ap (λ (k : Result Gathered ScaffoldRefusal). answer_after k ls (length (raw_lines (front ++ more)))) (sym j.gathered)
-    ∙ unread was j.given refusal (length (raw_lines (front ++ more))) j.going);
+      let read = unread_read limits front j.given r s end refusal j.read is says in
+      let ls : Lines = record { given = j.given; refusal = Some refusal } in
+      sym (answer_of_lines p (front ++ more) ls (refused_come limits front more j.given end refusal read.0 read.1 come)
+      ∙ ap (λ (k : Result Gathered ScaffoldRefusal). answer_after k ls (length (raw_lines (front ++ more)))) (sym j.gathered)
+      ∙ unread was j.given refusal (length (raw_lines (front ++ more))) j.going);
 }
 
 -- ---- pieces and the end

@@ -381,8 +381,11 @@ fn of_scaffold(answer: &ScaffoldAnswer) -> Told {
 type Piecewise = (&'static [u8], usize, Told, Option<usize>);
 
 const BOUND: &[u8] = b"a 1 [obj >= 0]\nc 1\n";
+
 const UNKNOWN: &[u8] = b"a 1 [obj >= 0]\nn 1 9\nc 1\n";
+
 const MISSING: &[u8] = b"a 1 [obj >= 0]\nn\nc 1\n";
+
 const UNENDED: &[u8] = b"a 1 [obj >= 0]\nn 1 9";
 
 const PIECES: [Piecewise; 13] = [

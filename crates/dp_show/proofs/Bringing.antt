@@ -52,13 +52,13 @@ brings_line None front r s end n line atoms now_atoms text now_text j is says h 
   given = j.given ++ (n, line) ∷ [];
   read = line_read limits front j.given r s end n line j.read is says;
   shown = λ rest unread.
-    let later : Shown = shown_lines (showing.after atoms line) rest unread in
-    let now : led_by now_text (shown_lines now_atoms rest unread) ≡ led_by (text ++ shown_line atoms line) later =
-    ap (λ (t : List ℕ). led_by t (shown_lines now_atoms rest unread)) h.2
-    ∙ ap (λ (a : Atoms). led_by (text ++ shown_line atoms line) (shown_lines a rest unread)) h.1 in
-    one_more front text atoms s j n line rest unread
-    ∙ ap (λ (w : Option Why). led_by text (shown_unless w n line (shown_line atoms line) later)) h.0
-    ∙ sym (now ∙ led_twice text (shown_line atoms line) later);
+      let later : Shown = shown_lines (showing.after atoms line) rest unread in
+      let now : led_by now_text (shown_lines now_atoms rest unread) ≡ led_by (text ++ shown_line atoms line) later =
+      ap (λ (t : List ℕ). led_by t (shown_lines now_atoms rest unread)) h.2
+      ∙ ap (λ (a : Atoms). led_by (text ++ shown_line atoms line) (shown_lines a rest unread)) h.1 in
+      one_more front text atoms s j n line rest unread
+      ∙ ap (λ (w : Option Why). led_by text (shown_unless w n line (shown_line atoms line) later)) h.0
+      ∙ sym (now ∙ led_twice text (shown_line atoms line) later);
 }
 brings_line (Some refusing) front r s end n line atoms now_atoms text now_text j is says (why, e, same_refusal, same) = λ more come.
     let read : HasRead limits front (j.given ++ (n, line) ∷ []) end = line_read limits front j.given r s end n line j.read is says in
@@ -79,11 +79,11 @@ pub brings_nothing : (front text : List ℕ) (atoms : Atoms) (r : Result (Option
 brings_nothing front text atoms r s end j is says same = record {
   shown = record { given = j.given; read = none_read limits front j.given r s end j.read is says; shown = j.shown };
   quiet = λ unended.
-    ap (λ (ls : Lines). (shown_of ls).refusal) (so_far_read limits front j.given r s end j.read is says (sym same ∙ unended))
-    ∙ ap (λ (q : Shown). q.refusal) (all_given front text atoms s j None);
+      ap (λ (ls : Lines). (shown_of ls).refusal) (so_far_read limits front j.given r s end j.read is says (sym same ∙ unended))
+      ∙ ap (λ (q : Shown). q.refusal) (all_given front text atoms s j None);
   whole = λ ended.
-    ap (λ (t : List ℕ). record { steps = t; refusal = None }) (sym (append-nil text))
-    ∙ sym (ap shown_of (whole_read limits front j.given r s end j.read is says (sym same ∙ ended)) ∙ all_given front text atoms s j None);
+      ap (λ (t : List ℕ). record { steps = t; refusal = None }) (sym (append-nil text))
+      ∙ sym (ap shown_of (whole_read limits front j.given r s end j.read is says (sym same ∙ ended)) ∙ all_given front text atoms s j None);
 }
 
 -- ---- a line cannot be read
@@ -112,7 +112,7 @@ begins j text atoms reader = record {
     given = [];
     read = subst (λ (s : State). HasRead limits [] [] s) (sym reader) (has_begun limits);
     shown = λ rest unread.
-      sym (ap (λ (t : List ℕ). led_by t (shown_lines j.atoms rest unread)) text ∙ ap (λ (a : Atoms). led_by [] (shown_lines a rest unread)) atoms);
+        sym (ap (λ (t : List ℕ). led_by t (shown_lines j.atoms rest unread)) text ∙ ap (λ (a : Atoms). led_by [] (shown_lines a rest unread)) atoms);
   };
   unended = ap (λ (s : State). s.ended) reader;
   quiet = refl;

@@ -67,7 +67,12 @@ impl LineJudge for Showing {
 
     fn feed(&mut self, piece: &[u8]) -> Result<Option<Shown>, Memory> {
         self.reader.feed(piece)?;
-        match show_lines(self.alloc, &mut self.reader, &mut self.atoms, &mut self.text)? {
+        match show_lines(
+            self.alloc,
+            &mut self.reader,
+            &mut self.atoms,
+            &mut self.text,
+        )? {
             Some(refusal) => Ok(Some(refused(self.alloc, &mut self.text, refusal))),
             None => Ok(None),
         }

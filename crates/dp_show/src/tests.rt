@@ -189,7 +189,12 @@ fn in_pieces(alloc: Global, log: &[u8], size: usize) -> Result<(Shown, Option<us
 }
 
 /// Whether this is shown of a short log in pieces of so many bytes, by a piece where so many had come.
-fn shows_in_pieces(alloc: Global, case: &Case, size: usize, at: Option<usize>) -> Result<bool, Memory> {
+fn shows_in_pieces(
+    alloc: Global,
+    case: &Case,
+    size: usize,
+    at: Option<usize>,
+) -> Result<bool, Memory> {
     let (log, steps, wanted) = case;
     if log.len() > 1000 || size == 0 {
         return Ok(false);

@@ -12,9 +12,9 @@ loop-answer-preserved c = record {
   problem = c.take_next.ensures.problem ∙ c.loop-answer.invariant.problem;
   ended = c.take_next.ensures.ended ∙ c.loop-answer.invariant.ended;
   judged = λ front j.
-    subst (λ (n : Next). IsNext n (posed c.args.checker.now.problem) front c.take_next.new.checker.progress c.take_next.new.reader) c.in-Taken.is
-    (carried c.args.checker.now.problem c.loop-answer.checker.problem c.in_ok-take_next.field-0 front c.args.checker.now.progress c.loop-answer.checker.progress c.take_next.new.checker.progress
-    c.args.reader.now c.loop-answer.reader c.take_next.new.reader c.loop-answer.invariant.problem c.loop-answer.invariant.judged c.in_ok-take_next.ensures.next j);
+      subst (λ (n : Next). IsNext n (posed c.args.checker.now.problem) front c.take_next.new.checker.progress c.take_next.new.reader) c.in-Taken.is
+      (carried c.args.checker.now.problem c.loop-answer.checker.problem c.in_ok-take_next.field-0 front c.args.checker.now.progress c.loop-answer.checker.progress c.take_next.new.checker.progress
+      c.args.reader.now c.loop-answer.reader c.take_next.new.reader c.loop-answer.invariant.problem c.loop-answer.invariant.judged c.in_ok-take_next.ensures.next j);
 }
 
 pub returns-in-Ended-clause-left : goal.returns-in-Ended-clause-left

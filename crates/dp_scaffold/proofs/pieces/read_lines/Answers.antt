@@ -12,9 +12,9 @@ loop-answer-preserved c = record {
   problem = c.take_next.ensures.problem ∙ c.loop-answer.invariant.problem;
   ended = c.take_next.ensures.ended ∙ c.loop-answer.invariant.ended;
   gathered = λ front j.
-    subst (λ (n : Next). IsNext n (posed c.args.gatherer.now.problem) front c.take_next.new.gatherer.progress c.take_next.new.reader) c.in-Taken.is
-    (carried c.args.gatherer.now.problem c.loop-answer.gatherer.problem c.in_ok-take_next.field-0 front c.args.gatherer.now.progress c.loop-answer.gatherer.progress c.take_next.new.gatherer.progress
-    c.args.reader.now c.loop-answer.reader c.take_next.new.reader c.loop-answer.invariant.problem c.loop-answer.invariant.gathered c.in_ok-take_next.ensures.next j);
+      subst (λ (n : Next). IsNext n (posed c.args.gatherer.now.problem) front c.take_next.new.gatherer.progress c.take_next.new.reader) c.in-Taken.is
+      (carried c.args.gatherer.now.problem c.loop-answer.gatherer.problem c.in_ok-take_next.field-0 front c.args.gatherer.now.progress c.loop-answer.gatherer.progress c.take_next.new.gatherer.progress
+      c.args.reader.now c.loop-answer.reader c.take_next.new.reader c.loop-answer.invariant.problem c.loop-answer.invariant.gathered c.in_ok-take_next.ensures.next j);
 }
 
 pub returns-in-Ended-clause-left : goal.returns-in-Ended-clause-left

@@ -8,8 +8,8 @@ pub loop-refusal-preserved : goal.loop-refusal-preserved
 loop-refusal-preserved c = record {
   ended = c.show_next.ensures.ended ∙ c.loop-refusal.invariant.ended;
   shown = λ front j.
-    subst (λ (n : Next). IsNext n front c.show_next.new.text.items c.show_next.new.atoms.entries c.show_next.new.reader) c.in-Passed.is
-    (c.in_ok-show_next.ensures.next front (c.loop-refusal.invariant.shown front j));
+      subst (λ (n : Next). IsNext n front c.show_next.new.text.items c.show_next.new.atoms.entries c.show_next.new.reader) c.in-Passed.is
+      (c.in_ok-show_next.ensures.next front (c.loop-refusal.invariant.shown front j));
 }
 
 pub returns-in-Ended-clause-left : goal.returns-in-Ended-clause-left

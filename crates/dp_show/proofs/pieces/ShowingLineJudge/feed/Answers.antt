@@ -18,6 +18,6 @@ returns-in-Some-clause-refused c =
     let j : Going = record { text = c.self.inside.text.items; atoms = c.self.inside.atoms.entries; reader = c.self.inside.reader } in (
       told_refusal c.refused.result c.show_lines.new.text.items c.in-Some.refusal c.refused.ensures,
       subst (λ (b : Going). (front more : List ℕ) → IsBehind b front → IsDue b (front ++ c.args.piece.now ++ more) c.refused.result) c.self.view_is
-      (λ front more h. fed_refused j front c.args.piece.now more c.in_ok-refusal.field-0 c.in-Some.refusal c.refused.result c.feed.new.self c.show_lines.new.reader c.show_lines.new.text.items
+          (λ front more h. fed_refused j front c.args.piece.now more c.in_ok-refusal.field-0 c.in-Some.refusal c.refused.result c.feed.new.self c.show_lines.new.reader c.show_lines.new.text.items
           c.show_lines.new.atoms.entries c.in_ok-feed.ensures.fed c.show_lines.ensures.ended c.in_ok-refusal.ensures.left c.in-Some.is c.refused.ensures h),
     )
