@@ -1,16 +1,16 @@
 -- What an accepted log says of its bytes and of the goal.
-use Rattle.std.specs.Prelude.{◌≡◌, ℕ, suc, ◌+◌, ◌<◌, ◌≤◌, ◌^◌, nat_lt, Bool, true, false, ◌&&◌, ◌==◌, if◌then◌else◌, Option, Some, None, Result, Ok, Err, IfOk, IfSome, is_none, List, [], ◌∷◌, length, ℤ}
+use Rattle.std.specs.Prelude.{◌≡◌, ℕ, suc, ◌+◌, ◌<◌, ◌≤◌, ◌^◌, nat_lt, Bool, true, false, ◌&&◌, ◌==◌, if◌then◌else◌, Option, Some, None, Result, Ok, Err, IfOk, IfSome, List, [], ◌∷◌, length, ℤ}
 use Rattle.std.specs.List.{list_all}
 use Rattle.std.specs.Option.{option_map}
-use Rattle.std.proofs.Common.{refl, sym, ◌∙◌, ap, subst, inl, inr, arith}
-use Rattle.std.proofs.lemmas.Bool.{false≢true, both_ways}
+use Rattle.std.proofs.Common.{refl, subst, arith}
+use Rattle.std.proofs.lemmas.Bool.{false≢true}
 use Rattle.std.proofs.lemmas.Bool.Decides.{nat_tests}
 use Rattle.dp_domain.specs.Atoms.{Atomic}
 use Rattle.dp_domain.specs.declared.atom.Op.{Op}
 use Rattle.dp_domain.specs.declared.verdict.Verdict.{Verdict}
 use Rattle.dp_domain.specs.declared.verdict.Verdict.TheVariants.{Unsat, Bound}
-use Rattle.dp_lines.specs.Lines.{Lines, judged, judged_content, led_by, lines, lines_behind}
-use Rattle.dp_lines.specs.RawLines.{Raw, content, raw_lines, size, with_byte}
+use Rattle.dp_lines.specs.Lines.{Lines, judged, led_by, lines, lines_behind}
+use Rattle.dp_lines.specs.RawLines.{Raw, raw_lines, size, with_byte}
 use Rattle.dp_lines.specs.declared.judge.Judged.{Judged}
 use Rattle.dp_lines.specs.declared.judge.Judged.TheVariants.{Blank, Given, Refused as RefusedLine}
 use Rattle.dp_lines.specs.declared.line.Claim.{Claim}
@@ -18,19 +18,17 @@ use Rattle.dp_lines.specs.declared.line.Claim.TheVariants as claim
 use Rattle.dp_lines.specs.declared.line.Line.{Line}
 use Rattle.dp_lines.specs.declared.line.Line.TheVariants.{Atom, Inference, Nogood, Delete, Conclude}
 use Rattle.dp_lines.specs.declared.refusal.LineRefusal.{LineRefusal}
-use Rattle.dp_lines.specs.declared.refusal.LineRefusal.TheVariants.{TooLong, LogTooLong}
+use Rattle.dp_lines.specs.declared.refusal.LineRefusal.TheVariants.{LogTooLong}
 use Rattle.dp_lines.specs.declared.refusal.Limits.{Limits}
 use Rattle.dp_parts.specs.declared.goal.Goal.{Goal}
 use Rattle.dp_parts.specs.declared.goal.Goal.TheVariants.{Satisfy, Minimize, Maximize}
 use Rattle.dp_parts.specs.Posed.{Posed}
 use Rattle.dp_parts.specs.Problems.{Csp, IsGoalOf, IsProblem, posed}
-use Rattle.dp_checker.specs.Judged.{after, concluded, conclusion_refusal, first_refusal, has_goal, is_at_least, is_at_most, is_bound, judge, judge_all, line_refusal, or_else, outcome, unless, verdict_of, with_atom}
+use Rattle.dp_checker.specs.Judged.{after, concluded, conclusion_refusal, first_refusal, is_at_least, is_at_most, is_bound, judge, judge_all, line_refusal, or_else, outcome, unless, verdict_of, with_atom}
 use Rattle.dp_checker.specs.Known.{Known, cons_some, literal_atom, literal_atoms, nothing}
 use Rattle.dp_checker.specs.declared.refusal.StepRefusal.{StepRefusal}
 use Rattle.dp_checker.specs.declared.refusal.Why.{Why}
 use Rattle.dp_judge.specs.Logs.{IsGoalAnswer, IsOfGoal, IsSmallAnswer, answer_after, conclude, ended, judged_log, limits}
-use Rattle.dp_judge.specs.declared.answer.LogAnswer.{LogAnswer}
-use Rattle.dp_judge.specs.declared.answer.LogAnswer.TheVariants.{Accepted, Unread, Refused}
 
 -- ---- the number of bytes
 

@@ -9,7 +9,6 @@ use Rattle.dp_lines.specs.RawLines.{raw_lines}
 use Rattle.dp_lines.specs.Readers.{State, closed, fed, fresh, left}
 use Rattle.dp_lines.specs.Runs.{with_all}
 use Rattle.dp_lines.specs.Spelling.{line_text}
-use Rattle.dp_lines.specs.Standing.{CanCome}
 use Rattle.dp_lines.specs.declared.line.Line.{Line}
 use Rattle.dp_lines.specs.declared.refusal.LineFault.{LineFault}
 use Rattle.dp_lines.specs.declared.refusal.LineFault.TheVariants.{Refused as Refusing}

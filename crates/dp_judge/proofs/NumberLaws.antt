@@ -1,7 +1,6 @@
 -- The numbers of a text's lines, and the line that has a number.
-use Rattle.std.specs.Prelude.{◌≡◌, ℕ, ◌+◌, ◌<◌, ◌≤◌, true, false, Option, Some, None, List, [], ◌∷◌, ◌++◌, nat_eq}
-use Rattle.std.specs.Map.{lookup}
-use Rattle.std.proofs.Common.{refl, sym, ◌∙◌, ap, subst, append_assoc, arith}
+use Rattle.std.specs.Prelude.{◌≡◌, ℕ, ◌+◌, ◌<◌, ◌≤◌, true, false, Some, List, [], ◌∷◌, ◌++◌, nat_eq}
+use Rattle.std.proofs.Common.{refl, ◌∙◌, ap, subst, append_assoc, arith}
 use Rattle.std.proofs.lemmas.Bool.Decides.{nat_tests}
 use Rattle.dp_lines.specs.Lines.{Lines, judged, led_by, lines, lines_behind}
 use Rattle.dp_lines.specs.RawLines.{Raw, raw_lines, size}

@@ -1,6 +1,6 @@
 -- The log comes as one piece.
 use Rattle.std.specs.Prelude.{[]}
-use Rattle.std.proofs.Common.{refl, subst}
+use Rattle.std.proofs.Common.{refl}
 use Rattle.std.proofs.lemmas.List.{append-nil}
 use Rattle.dp_judge.proofs.Bringing.{due_of, if_ok, refused_alone}
 use Rattle.dp_judge.proofs.judge.judge_log.Goals as goal

@@ -1,6 +1,5 @@
 -- Nothing has come, and so all that has come passes.
-use Rattle.std.specs.Prelude.{[]}
-use Rattle.std.proofs.Common.{sym, ◌∙◌, ap, subst}
+use Rattle.std.proofs.Common.{sym, subst}
 use Rattle.dp_parts.specs.Problems.{IsProblem}
 use Rattle.dp_judge.proofs.Bringing.{begins}
 use Rattle.dp_judge.proofs.pieces.Judging.new.Goals as goal
