@@ -1,22 +1,20 @@
 -- The turns of a sum of at most a number.
-use Rattle.std.proofs.Common.{◌≡◌, ℕ, ◌<◌, Bool, true, false, ◌&&◌, ◌||◌, List, [], ◌∷◌, length, set, Option, Some, None, option_map, map, ℤ, pos, ◌+ℤ◌, ◌-ℤ◌, ◌*ℤ◌, ◌≤ℤ◌, ◌<ℤ◌, int_le, int_lt, refl, sym, ◌∙◌, ap, subst, inl, inr, arith}
-use Rattle.std.specs.List.{filter, list_all}
-use Rattle.std.specs.Prelude.{unwrap_or}
+use Rattle.std.proofs.Common.{◌≡◌, ℕ, ◌<◌, Bool, true, false, ◌&&◌, ◌||◌, List, [], ◌∷◌, length, set, Option, Some, None, option_map, ℤ, pos, ◌+ℤ◌, ◌-ℤ◌, ◌*ℤ◌, ◌≤ℤ◌, ◌<ℤ◌, int_le, int_lt, refl, sym, ◌∙◌, ap, subst, inl, inr, arith}
+use Rattle.std.specs.List.{filter}
 use Rattle.std.proofs.lemmas.Int.{ints}
-use Rattle.std.proofs.lemmas.Bool.{both_ways, cases_Bool, false_from_ne_true, true_from_ne_false}
-use Rattle.dp_base.specs.Lists.{Among, Climbs, Each}
-use Rattle.dp_base.specs.Scopes.{with_variable}
+use Rattle.std.proofs.lemmas.Bool.{both_ways, false_from_ne_true, true_from_ne_false}
+use Rattle.dp_base.specs.Lists.{Among}
 use Rattle.dp_base.proofs.Lists.{Among-filter_all, Among-filter_only, Each-among, list_all-at, list_all-from}
 use Rattle.dp_base.proofs.ScopeLaws.{among_with, among_with_out}
 use Rattle.dp_domain.specs.Atoms.{Atomic, meets, negated}
-use Rattle.dp_domain.specs.Conditions.{IsApart, in_force}
+use Rattle.dp_domain.specs.Conditions.{in_force}
 use Rattle.dp_domain.specs.declared.found.Found.{Found}
 use Rattle.dp_domain.specs.declared.found.Found.TheVariants.{Clash, Atom}
 use Rattle.dp_domain.specs.Faces.{Covers, Face}
-use Rattle.dp_domain.specs.Sets.{IsDomain, least}
+use Rattle.dp_domain.specs.Sets.{IsDomain}
 use Rattle.dp_domain.specs.States.{Domains, cut, entails, is_dead, values}
 use Rattle.dp_domain.specs.Turns.{given, given_on, or_else, turn_of}
-use Rattle.dp_domain.proofs.AtomLaws.{le-from_test, lt-from_test, meets-from_not, not-from_meets, test-from_le, test-from_lt}
+use Rattle.dp_domain.proofs.AtomLaws.{lt-from_test, meets-from_not, not-from_meets, test-from_lt}
 use Rattle.dp_domain.proofs.SetLaws.{IsDomain-filter}
 use Rattle.dp_domain.specs.Supports.{IsSupport, bound_by}
 use Rattle.dp_domain.proofs.SupportLaws.{support-bound}

@@ -1,5 +1,5 @@
 -- How the bounds of terms are found.
-use Rattle.std.proofs.Common.{◌≡◌, ℕ, ◌+◌, ◌^◌, ◌<◌, ◌↔◌, Bool, true, false, List, [], ◌∷◌, length, drop, get_or, Option, Some, None, IsSome, IfSome, is_some, FitsSigned, ℤ, pos, negsuc, neg_ℤ, ◌+ℤ◌, ◌-ℤ◌, ◌*ℤ◌, ◌≤ℤ◌, ◌<ℤ◌, int_le, int_div, refl, sym, ◌∙◌, ap, subst, inl, inr, arith}
+use Rattle.std.proofs.Common.{◌≡◌, ℕ, ◌+◌, ◌^◌, ◌<◌, ◌↔◌, true, false, List, [], ◌∷◌, length, drop, get_or, Option, Some, None, IsSome, IfSome, is_some, FitsSigned, ℤ, pos, negsuc, neg_ℤ, ◌+ℤ◌, ◌-ℤ◌, ◌*ℤ◌, ◌≤ℤ◌, ◌<ℤ◌, int_le, int_div, refl, sym, ◌∙◌, ap, subst, inl, arith}
 use Rattle.std.specs.List.{filter}
 use Rattle.std.specs.Prelude.{unwrap_or}
 use mir.Syntax.{w64, w128}
@@ -19,7 +19,6 @@ use Rattle.dp_domain.proofs.AtomLaws.{test-from_le}
 use Rattle.dp_domain.proofs.SetLaws.{IsSmall-among, greatest-among, least-among}
 use Rattle.dp_rule_linear.specs.Bounds.{first_bound, fitting, near_greatest, near_least}
 use Rattle.dp_rule_linear.specs.Forms.{IsBounded, least_product}
-use Rattle.dp_rule_linear.specs.IntLaws.{order_of}
 use Rattle.dp_rule_linear.proofs.CloseLaws.{fitting-negative, fitting-positive, from-bound, from-whole, upto-bound, upto-whole}
 use Rattle.dp_rule_linear.proofs.SumSteps.{left_at}
 

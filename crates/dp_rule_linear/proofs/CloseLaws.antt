@@ -1,14 +1,12 @@
 -- The values near the least or the greatest of a set, and the bound that they give.
-use Rattle.std.proofs.Common.{◌≡◌, ℕ, ◌<◌, Bool, true, false, cond, List, [], ◌∷◌, length, map, Option, Some, None, option_map, ℤ, pos, neg_ℤ, ◌+ℤ◌, ◌-ℤ◌, ◌*ℤ◌, ◌≤ℤ◌, ◌<ℤ◌, int_le, int_lt, int_div, refl, sym, ◌∙◌, ap, subst, inl, inr, arith}
+use Rattle.std.proofs.Common.{◌≡◌, ℕ, true, false, cond, List, Option, Some, None, option_map, ℤ, pos, neg_ℤ, ◌+ℤ◌, ◌-ℤ◌, ◌*ℤ◌, ◌≤ℤ◌, ◌<ℤ◌, int_le, int_lt, int_div, sym, ◌∙◌, ap, inl, inr, arith}
 use Rattle.std.specs.List.{filter}
 use Rattle.std.specs.Prelude.{unwrap_or}
 use Rattle.std.proofs.lemmas.Int.{ints}
-use Rattle.std.proofs.lemmas.Bool.{both_ways, cases_Bool, false_from_ne_true}
-use Rattle.dp_base.specs.Lists.{Among}
+use Rattle.std.proofs.lemmas.Bool.{cases_Bool, false_from_ne_true}
 use Rattle.dp_base.proofs.Lists.{Among-filter_all, Among-filter_only, filter-whole, list_all-from}
-use Rattle.dp_domain.specs.Atoms.{Atomic}
 use Rattle.dp_domain.specs.Explanations.{is_less}
-use Rattle.dp_domain.specs.Sets.{IsDomain, IsSmall, greatest, least}
+use Rattle.dp_domain.specs.Sets.{greatest, least}
 use Rattle.dp_domain.specs.States.{Domains, values}
 use Rattle.dp_domain.specs.Turns.{at_least, at_most, or_else}
 use Rattle.dp_domain.proofs.AtomLaws.{le-from_test, lt-from_test, test-from_le, test-from_lt}

@@ -1,7 +1,6 @@
 -- What follows on the variable of a condition that has to fail.
-use Rattle.std.proofs.Common.{◌≡◌, ℕ, Bool, true, false, List, [], ◌∷◌, Option, None, ℤ, refl, sym, ◌∙◌, ap, inl}
+use Rattle.std.proofs.Common.{◌≡◌, true, false, List, [], ◌∷◌, None, ℤ, refl, sym, ◌∙◌, ap}
 use Rattle.std.specs.List.{filter, list_all}
-use Rattle.dp_base.specs.Lists.{Among}
 use Rattle.dp_base.proofs.Lists.{Each-among, filter-whole, list_all-fails, list_all-from}
 use Rattle.dp_domain.specs.Atoms.{Atomic, meets, negated}
 use Rattle.dp_domain.specs.Sets.{greatest_from, least_from}

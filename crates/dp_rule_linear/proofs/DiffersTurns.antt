@@ -1,12 +1,12 @@
 -- The turns of a sum other than a number.
-use Rattle.std.proofs.Common.{◌≡◌, ℕ, zero, suc, ◌+◌, ◌^◌, ◌<◌, ◌≤◌, FitsSigned, get_or, Bool, true, false, not, ◌&&◌, ◌||◌, ◌⊎◌, List, [], ◌∷◌, length, set, Option, Some, None, option_map, map, ℤ, pos, ◌+ℤ◌, ◌-ℤ◌, ◌*ℤ◌, ◌≤ℤ◌, ◌<ℤ◌, int_le, refl, sym, ◌∙◌, ap, subst, inl, inr, arith}
-use Rattle.std.specs.List.{filter, list_all}
+use Rattle.std.proofs.Common.{◌≡◌, ℕ, zero, suc, ◌+◌, ◌^◌, ◌<◌, ◌≤◌, FitsSigned, get_or, Bool, true, false, not, ◌&&◌, ◌||◌, ◌⊎◌, List, [], ◌∷◌, length, set, Option, Some, None, option_map, ℤ, pos, ◌+ℤ◌, ◌-ℤ◌, ◌*ℤ◌, ◌≤ℤ◌, ◌<ℤ◌, refl, sym, ◌∙◌, ap, subst, inl, inr, arith}
+use Rattle.std.specs.List.{filter}
 use mir.Syntax.{w128}
 use mir.Val.{of_z}
 use Rattle.std.proofs.lemmas.Int.{ints}
 use Rattle.std.proofs.lemmas.List.{get_or_default}
 use Rattle.std.proofs.lemmas.Bool.{both_ways, cases_eq, cases_lt, false_from_ne_true, not-true, not_from_false, true_from_ne_false}
-use Rattle.dp_base.specs.Lists.{Among, Climbs, Each}
+use Rattle.dp_base.specs.Lists.{Among, Climbs}
 use Rattle.dp_base.proofs.Lists.{Among-filter_all, Among-filter_only, Among-get_or, Contains-from_among, Each-among, Each-get_or, list_all-at, list_all-from, list_all-not}
 use Rattle.dp_domain.specs.Atoms.{Atomic, negated}
 use Rattle.dp_domain.specs.Conditions.{in_force}
@@ -15,8 +15,8 @@ use Rattle.dp_domain.specs.declared.found.Found.TheVariants.{Clash, Atom}
 use Rattle.dp_domain.specs.Faces.{Covers, Face}
 use Rattle.dp_domain.specs.Sets.{IsDomain}
 use Rattle.dp_domain.specs.States.{Domains, cut, entails, is_dead, values}
-use Rattle.dp_domain.specs.Supports.{IsSupport, bound_by, hole_by}
-use Rattle.dp_domain.specs.Turns.{given, given_on, or_else, turn_of}
+use Rattle.dp_domain.specs.Supports.{IsSupport}
+use Rattle.dp_domain.specs.Turns.{given_on, turn_of}
 use Rattle.dp_domain.proofs.AtomLaws.{order_cases}
 use Rattle.dp_domain.proofs.SetLaws.{IsDomain-filter}
 use Rattle.dp_domain.proofs.StateLaws.{cut-entailed}

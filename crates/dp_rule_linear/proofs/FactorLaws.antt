@@ -1,5 +1,5 @@
 -- The one factor whose product with another is a number.
-use Rattle.std.proofs.Common.{◌≡◌, ℕ, zero, suc, ◌/◌, ◌^◌, ◌<◌, ◌≤◌, FitsSigned, unsigned_abs, ℤ, pos, negsuc, neg_ℤ, ◌+ℤ◌, ◌*ℤ◌, ◌≤ℤ◌, ◌<ℤ◌, int_div, int_rem, refl, sym, ◌∙◌, ap, subst, inl, inr, arith}
+use Rattle.std.proofs.Common.{◌≡◌, ℕ, zero, suc, ◌/◌, ◌^◌, ◌<◌, ◌≤◌, FitsSigned, unsigned_abs, ℤ, pos, negsuc, neg_ℤ, ◌+ℤ◌, ◌*ℤ◌, ◌≤ℤ◌, ◌<ℤ◌, int_div, int_rem, refl, sym, ◌∙◌, ap, inl, inr, arith}
 use mir.Syntax.{w128}
 use mir.Val.{of_z, to_z}
 use Rattle.std.proofs.lemmas.Int.{fits_signed_from_abs, ints, quot-rem, rem_below, to_z-of_z}

@@ -7,12 +7,11 @@ use Rattle.dp_base.specs.Scopes.{with_variable}
 use Rattle.dp_base.proofs.Lists.{Among-filter_only}
 use Rattle.dp_base.proofs.ScopeLaws.{order_of, with_variable-after, with_variable-before, with_variable-same}
 use Rattle.dp_domain.specs.Atoms.{Atomic, negated}
-use Rattle.dp_domain.specs.declared.found.Found.{Found}
 use Rattle.dp_domain.specs.declared.found.Found.TheVariants.{Clash, Atom}
 use Rattle.dp_domain.specs.Sets.{greatest, least}
 use Rattle.dp_domain.specs.States.{Domains, cut, entails, values}
 use Rattle.dp_domain.specs.Faces.{Face}
-use Rattle.dp_domain.specs.Turns.{at_least, at_most, given, given_on, gives, new_hole, new_lower, new_upper, or_else, other_than, turn_of}
+use Rattle.dp_domain.specs.Turns.{at_least, at_most, given, given_on, gives, new_hole, new_upper, or_else, other_than, turn_of}
 use Rattle.dp_domain.proofs.StateLaws.{is_nil-none, nil-from_test}
 use Rattle.dp_domain.proofs.TurnLaws.{gives-parts}
 

@@ -1,5 +1,5 @@
 -- How the atoms of a sum other than a number are found.
-use Rattle.std.proofs.Common.{◌≡◌, ℕ, ◌^◌, ◌+◌, ◌<◌, ◌≤◌, ◌↔◌, Bool, true, false, not, ◌&&◌, List, [], ◌∷◌, length, get_or, Option, Some, None, Result, IsSome, IfSome, IfOk, is_some, option_map, ℤ, pos, negsuc, neg_ℤ, ◌+ℤ◌, ◌-ℤ◌, ◌*ℤ◌, ◌≤ℤ◌, ◌<ℤ◌, int_le, int_div, int_rem, refl, sym, ◌∙◌, ap, subst, inl, inr, arith}
+use Rattle.std.proofs.Common.{◌≡◌, ℕ, ◌^◌, ◌<◌, ◌↔◌, true, false, not, ◌&&◌, List, [], ◌∷◌, length, get_or, Option, Some, None, Result, IsSome, IfSome, IfOk, is_some, option_map, ℤ, pos, ◌*ℤ◌, int_le, refl, sym, ◌∙◌, ap, subst, inl, inr, arith}
 use Rattle.std.specs.List.{filter, list_all}
 use mir.Syntax.{w64, w128}
 use mir.Val.{of_z, to_z}

@@ -1,7 +1,5 @@
 -- The greatest value that there is room for, where it is below the greatest.
-use Rattle.std.proofs.Common.{◌<ℤ◌, ◌+ℤ◌, arith, refl}
-use mir.Syntax.{w64}
-use mir.Val.{of_z, to_z}
+use Rattle.std.proofs.Common.{arith, refl}
 use Rattle.std.proofs.lemmas.Int.{ints}
 use Rattle.dp_domain.specs.States.{values}
 use Rattle.dp_domain.proofs.ExplanationSteps.{small_greatest, small_least}

@@ -1,5 +1,5 @@
 -- The least value that there is room for, where it is above the least.
-use Rattle.std.proofs.Common.{◌<ℤ◌, ◌-ℤ◌, arith, refl}
+use Rattle.std.proofs.Common.{arith, refl}
 use Rattle.std.proofs.lemmas.Int.{ints}
 use Rattle.dp_domain.specs.States.{values}
 use Rattle.dp_domain.proofs.ExplanationSteps.{small_greatest, small_least}

@@ -1,11 +1,10 @@
 -- The room that a term leaves its variable is the quotient.
-use Rattle.std.proofs.Common.{◌<ℤ◌, ◌-ℤ◌, ℤ, pos, neg_ℤ, int_div, arith, refl}
+use Rattle.std.proofs.Common.{◌<ℤ◌, ◌-ℤ◌, pos, neg_ℤ, arith, refl}
 use mir.Syntax.{w128}
 use mir.Val.{of_z, to_z}
 use Rattle.std.proofs.lemmas.Int.{ints}
 use Rattle.dp_domain.specs.Sets.{greatest, least}
 use Rattle.dp_domain.specs.States.{values}
-use Rattle.dp_rule_linear.specs.Forms.{IsBounded}
 use Rattle.dp_rule_linear.proofs.BoundSteps.{quotient_bounded, quotient_read, term-above, term-below}
 use Rattle.dp_rule_linear.proofs.bounds.term_bound.Goals as goal
 

@@ -1,5 +1,5 @@
 -- A product has no remainder, and its other factor is the quotient.
-use Rattle.std.proofs.Common.{◌≡◌, ◌*ℤ◌, ℤ, ap, arith, int_div, sym, ◌∙◌}
+use Rattle.std.proofs.Common.{◌≡◌, ◌*ℤ◌, ap, arith, int_div, ◌∙◌}
 use mir.Syntax.{w64, w128}
 use mir.Val.{of_z, to_z}
 use Rattle.std.proofs.lemmas.Int.{ints}

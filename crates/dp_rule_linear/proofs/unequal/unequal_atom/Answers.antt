@@ -1,6 +1,4 @@
 -- The values at which the term is another number are those other than the quotient.
-use Rattle.std.proofs.Common.{sym, ◌∙◌}
-use Rattle.dp_domain.specs.States.{values}
 use Rattle.dp_rule_linear.proofs.UnequalSteps.{quotient_found, quotient_none}
 use Rattle.dp_rule_linear.proofs.unequal.unequal_atom.Goals as goal
 

@@ -1,11 +1,7 @@
 -- The variable of the one term that has several values may not make the sum the number.
-use Rattle.std.proofs.Common.{◌≡◌, ◌^◌, ◌<◌, ℕ, ℤ, ◌+ℤ◌, length, get_or, ap, arith, false, subst, sym, true, ◌∙◌}
-use mir.Syntax.{w64}
-use mir.Val.{of_z, to_z}
+use Rattle.std.proofs.Common.{◌≡◌, ◌^◌, ℕ, ℤ, get_or, ap, arith, false, subst, sym, true, ◌∙◌}
 use Rattle.std.proofs.lemmas.Int.{ints}
 use Rattle.dp_domain.specs.Conditions.{in_force}
-use Rattle.dp_domain.specs.Sets.{IsDomain}
-use Rattle.dp_domain.specs.States.{values}
 use Rattle.dp_rule_linear.specs.Forms.{HaveDomains, IsBounded, IsProper, Linear, least_product, term_at}
 use Rattle.dp_rule_linear.proofs.AtMostTurns.{slack_of}
 use Rattle.dp_rule_linear.proofs.DiffersTurns.{open_found, open_off_found}
