@@ -4,17 +4,15 @@ use Rattle.std.proofs.Common.{append_assoc, refl, sym, ◌∙◌, ap, subst}
 use Rattle.std.proofs.lemmas.Bool.{false≢true}
 use Rattle.std.proofs.lemmas.List.{append-nil}
 use Rattle.dp_lines.specs.Lines.{Lines}
-use Rattle.dp_lines.specs.Lines as lines
 use Rattle.dp_lines.specs.Pieces.{HasRead}
 use Rattle.dp_lines.specs.Readers.{State, closed, fed, fresh, left}
-use Rattle.dp_lines.specs.Runs.{with_all}
 use Rattle.dp_lines.specs.declared.line.Line.{Line}
 use Rattle.dp_lines.specs.declared.refusal.LineFault.{LineFault}
 use Rattle.dp_lines.specs.declared.refusal.LineFault.TheVariants.{Refused as Refusing}
 use Rattle.dp_lines.specs.declared.refusal.LineRefusal.{LineRefusal}
 use Rattle.dp_lines.proofs.PiecesLaws.{Says, has_begun, has_closed, has_fed, line_read, lines_come, none_read, refused_come, so_far_read, unread_read, whole_read}
 use Rattle.dp_checker.specs.declared.refusal.Why.{Why}
-use Rattle.dp_show.specs.Logs.{has_no_refusal, led_by, limits, refused, shown_lines, shown_log, shown_unless}
+use Rattle.dp_show.specs.Logs.{led_by, limits, refused, shown_lines, shown_log, shown_unless}
 use Rattle.dp_show.specs.Named.{Atoms}
 use Rattle.dp_show.specs.Pieces.{AreLeft, ArePassed, AreRefused, Going, IsBehind, IsDue, IsNext, IsShown, IsTaken, Refuses, brought_by}
 use Rattle.dp_show.specs.Showing.{refusal, shown_line}

@@ -1,6 +1,6 @@
 -- What the lines that a piece ends bring.
-use Rattle.std.specs.Prelude.{◌≡◌, ℕ, ◌++◌, None, List}
-use Rattle.std.proofs.Common.{refl, subst}
+use Rattle.std.specs.Prelude.{ℕ, ◌++◌, List}
+use Rattle.std.proofs.Common.{subst}
 use Rattle.dp_show.specs.Pieces.{Going, IsBehind, IsDue}
 use Rattle.dp_show.proofs.Bringing.{fed_going, fed_refused, told_refusal}
 use Rattle.dp_show.proofs.pieces.ShowingLineJudge.feed.Goals as goal
