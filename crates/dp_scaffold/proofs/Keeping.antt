@@ -14,7 +14,7 @@ use Rattle.dp_checker.specs.Judged.{has_goal, is_at_least, is_at_most, is_bound}
 use Rattle.dp_checker.specs.Known.{cons_some, first_undefined, literal_atom, literal_atoms}
 use Rattle.dp_checker.specs.SoundnessLaws.{second_passes}
 use Rattle.dp_checker.proofs.Below.{literals_below}
-use Rattle.dp_domain.specs.Atoms.{Atomic, negated}
+use Rattle.dp_domain.specs.Atoms.{Atomic}
 use Rattle.dp_domain.specs.States.{AreOf}
 use Rattle.dp_domain.specs.declared.atom.Op.{Op}
 use Rattle.dp_domain.specs.declared.verdict.Verdict.{Verdict}

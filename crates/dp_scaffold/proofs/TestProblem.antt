@@ -1,6 +1,5 @@
 -- The problem of the tests is one.
-use Rattle.std.proofs.Common.{◌≡◌, ℕ, zero, suc, ◌<◌, ◌^◌, List, [], ◌∷◌, length, codes, Some, None, slice_get, sym, subst, refl, arith}
-use Rattle.dp_parts.specs.declared.part.Part.{Part}
+use Rattle.std.proofs.Common.{◌≡◌, ℕ, zero, suc, List, [], ◌∷◌, length, codes, Some, None, slice_get, sym, subst, refl, arith}
 use Rattle.dp_parts.specs.Problems.{Csp, IsGoalOf, IsProblem}
 
 abbrev names : List (List ℕ × ℕ)

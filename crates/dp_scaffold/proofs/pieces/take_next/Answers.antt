@@ -1,5 +1,5 @@
 -- What the next line brings, by the answer of the reader.
-use Rattle.std.specs.Prelude.{Some, Ok, Err}
+use Rattle.std.specs.Prelude.{Ok, Err}
 use Rattle.std.proofs.Common.{sym, ◌∙◌, ap}
 use Rattle.dp_lines.specs.declared.refusal.LineFault.TheVariants.{Refused}
 use Rattle.dp_lines.proofs.PiecesLaws.{Says, fewer_read}

@@ -1,5 +1,5 @@
 -- A line that no test refuses keeps what is kept.
-use Rattle.std.proofs.Common.{◌≡◌, None, Option, arith, rules, sym, ◌∙◌, subst}
+use Rattle.std.proofs.Common.{◌≡◌, None, arith, rules, sym, subst}
 use Rattle.std.proofs.lemmas.Grind.{common_steps}
 use Rattle.dp_parts.specs.Problems.{posed}
 use Rattle.dp_scaffold.specs.Answers.{gathered_of}
