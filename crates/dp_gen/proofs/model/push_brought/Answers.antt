@@ -1,0 +1,8 @@
+use Rattle.std.proofs.Common.{ℕ, List, ◌++◌, ◌∙◌, ap}
+use Rattle.dp_gen.proofs.TextLemmas.{brought_text}
+use Rattle.dp_gen.proofs.model.push_brought.Goals as goal
+
+pub returns : goal.returns
+returns c =
+    c.in_ok-extend_from_slice.ensures.items
+    ∙ ap (λ (t : List ℕ). c.args.text.now.items ++ t) (c.as_bytes.ensures.value ∙ c.in_ok-lines.ensures.ok ∙ brought_text c.args.k)
