@@ -5,7 +5,7 @@ use Rattle.std.proofs.lemmas.List.Folds.{find_at}
 use Rattle.std.proofs.lemmas.List.Quantifiers.{position-Some}
 use Rattle.std.proofs.lemmas.Option.{slice_get-get_or, slice_get_past}
 use Rattle.std.proofs.lemmas.Grind.{common_steps}
-use Rattle.dp_desk.specs.InMemory.{held}
+use Rattle.dp_desk.specs.Stored.{held}
 use Rattle.dp_desk.specs.Places.{bytes_at}
 
 chosen : (b : Bool) (n at : ℕ) → cond b (Some n) None ≡ Some at → n ≡ at

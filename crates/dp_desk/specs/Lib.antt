@@ -1,8 +1,9 @@
 pub mod Causes
 pub mod Channel
-pub mod Fields
+pub mod Honest
 pub mod Host
 pub mod InMemory
 pub mod Places
 pub mod Sight
+pub mod Stored
 pub mod Tells

@@ -2,12 +2,16 @@
 #![tactic(auto)]
 
 mod desk;
+mod honest_desk;
 mod host_desk;
 mod memory_desk;
+mod sheet;
 mod storage;
+mod store;
 mod write;
 
 pub use desk::{Desk, Failed, In, Out};
+pub use honest_desk::{HonestDesk, told_while_they_fit};
 pub use host_desk::HostDesk;
 pub use memory_desk::MemoryDesk;
 pub use write::write_all;

@@ -1,13 +1,15 @@
 // A desk in memory, for tests and for texts that the program itself reads again.
 
-ghost use Rattle.std.specs.Prelude.{◌≡◌, ◌≢◌, ◌⊎◌, ◌↔◌, ◌<◌, ◌≤◌, ◌++◌, [], ℕ, Some, None, length, take, drop, min, IfOk, OnOk, OnErr, IsErr, IsNone, IfSome, IfNone, IsTrue};
+ghost use Rattle.std.specs.Prelude.{◌≡◌, ◌≢◌, ◌⊎◌, ◌↔◌, ◌<◌, ◌≤◌, ◌++◌, [], Some, length, take, drop, min, IfOk, OnOk, OnErr, IsErr, IsNone, IfSome, IfNone, IsTrue};
 ghost use Rattle.dp_desk.specs.Causes.{HasCause};
 ghost use Rattle.dp_desk.specs.Channel.{IsOpen, Opens, Takes, IsAtEnd, Starts, Grows, IsUntold, Shown};
-ghost use Rattle.dp_desk.specs.Sight.{Sight, input, output, with_input, with_output};
-ghost use Rattle.dp_desk.specs.InMemory.{held, told, fresh, raised, fails_next, counted, failed_in, failed_out, bytes_left, with_left, written_to, with_written};
-ghost use Rattle.dp_desk.specs.Tells.{memory_tells_inputs, memory_answer_open};
+ghost use Rattle.dp_desk.specs.InMemory.{told, fresh, fails_next, counted, failed_in, failed_out};
+ghost use Rattle.dp_desk.specs.Sight.{input, output, with_input, with_output};
+ghost use Rattle.dp_desk.specs.Stored.{held, bytes_left, with_input_opened, taken, written_to, with_written};
+ghost use Rattle.dp_desk.specs.Tells.{stored_tells_inputs, stored_answer_open};
 
-use crate::storage::{Place, Sheet, append, count_call, count_fault, find_file, take_from};
+use crate::storage::{count_call, count_fault, find_file};
+use crate::store::Store;
 use crate::{Desk, Failed, In, Out};
 use dp_base::{Name, Text};
 use std::alloc::Global;
@@ -19,18 +21,12 @@ use std::marker::Model;
 /// output is told no more until it is opened again. Each call that does not fail moves as many bytes as it may.
 #[derive(Drop)]
 pub struct MemoryDesk {
-    alloc: Global,
-    files: Vec<(Name, Text)>,
+    store: Store,
     piece: usize,
     failing: Vec<u64>,
     calls: u64,
     faults_in: u64,
     faults_out: u64,
-    model: Option<Place>,
-    log: Option<Place>,
-    answer: Sheet,
-    first: Sheet,
-    second: Sheet,
 }
 
 impl Model for MemoryDesk {
@@ -39,9 +35,9 @@ impl Model for MemoryDesk {
 
     ghost Value = { InMemory };
 
-    ghost use Rattle.dp_desk.specs.Fields.{in_memory};
+    ghost use Rattle.dp_desk.specs.Places.{stored_of};
 
-    ghost view = { in_memory };
+    ghost view = { λ desk. record { stored = stored_of desk.store; piece = desk.piece; failing = desk.failing.items; calls = desk.calls; faults_in = desk.faults_in; faults_out = desk.faults_out } };
 
     ghost invariant = { λ desk. 1 ≤ desk.piece };
 }
@@ -59,18 +55,12 @@ impl MemoryDesk {
         ensures { result ≡ fresh files.items piece failing.items }
     {
         MemoryDesk {
-            alloc,
-            files,
+            store: Store::new(files, Vec::new(alloc), Vec::new(alloc), Vec::new(alloc)),
             piece,
             failing,
             calls: 0,
             faults_in: 0,
             faults_out: 0,
-            model: None,
-            log: None,
-            answer: Sheet::Kept(Vec::new(alloc)),
-            first: Sheet::Shut,
-            second: Sheet::Shut,
         }
     }
 
@@ -79,15 +69,7 @@ impl MemoryDesk {
         ensures shown { IfSome result (λ bytes. output which (told self.now) ≡ Shown bytes.now) }
         ensures untold { IfNone result (IsUntold (output which (told self.now))) }
     {
-        let sheet = match which {
-            Out::Answer => &self.answer,
-            Out::First => &self.first,
-            Out::Second => &self.second,
-        };
-        match sheet {
-            Sheet::Kept(bytes) => Some(bytes.as_slice()),
-            _ => None,
-        }
+        self.store.written(which)
     }
 }
 
@@ -98,9 +80,9 @@ impl Desk for MemoryDesk {
 
     ghost faults_out = { λ desk. desk.faults_out };
 
-    ghost answer_open = { memory_answer_open };
+    ghost answer_open = { λ desk. stored_answer_open held desk.stored };
 
-    ghost tells_inputs = { memory_tells_inputs };
+    ghost tells_inputs = { λ desk. stored_tells_inputs held desk.stored };
 
     fn open_in(&mut self, which: In, name: &str) -> Result<(), Failed>
         ensures opened { OnOk result (Opens (told self.old).names name.now (input which (told self.new))) }
@@ -110,18 +92,14 @@ impl Desk for MemoryDesk {
         ensures other { self.new.faults_out ≡ self.old.faults_out }
 
         // It fails exactly where it is listed or the name is absent.
-        ensures fails { IsErr result ↔ IsTrue (fails_next self.old) ⊎ IsNone (held self.old.files name.now) }
-        ensures after { OnOk result (IfSome (held self.old.files name.now) (λ bytes. self.new ≡ with_left which bytes (counted self.old))) }
+        ensures fails { IsErr result ↔ IsTrue (fails_next self.old) ⊎ IsNone (held self.old.stored.files name.now) }
+        ensures after { OnOk result (IfSome (held self.old.stored.files name.now) (λ bytes. self.new ≡ counted (with_input_opened which bytes self.old.stored) self.old)) }
         ensures fault { OnErr result (self.new ≡ failed_in self.old) }
     {
         let listed = count_call(&mut self.calls, &self.failing);
-        match find_file(&self.files, name) {
+        match find_file(&self.store.files, name) {
             Some(file) if !listed => {
-                let place = Some(Place { file, at: 0 });
-                match which {
-                    In::Model => self.model = place,
-                    In::Log => self.log = place,
-                }
+                self.store.open_in(which, file);
                 Ok(())
             }
             _ => Err(count_fault(&mut self.faults_in)),
@@ -140,20 +118,16 @@ impl Desk for MemoryDesk {
 
         // It fails exactly where it is listed.
         ensures fails { IsErr result ↔ IsTrue (fails_next self.old) }
-        ensures moved { IfOk result (λ count. count ≡ min self.old.piece (min (length into.old) (length (bytes_left which self.old)))) }
-        ensures bytes { IfOk result (λ count. into.new ≡ take count (bytes_left which self.old) ++ drop count into.old) }
-        ensures after { IfOk result (λ count. self.new ≡ with_left which (drop count (bytes_left which self.old)) (counted self.old)) }
+        ensures moved { IfOk result (λ count. count ≡ min self.old.piece (min (length into.old) (length (bytes_left which self.old.stored)))) }
+        ensures bytes { IfOk result (λ count. into.new ≡ take count (bytes_left which self.old.stored) ++ drop count into.old) }
+        ensures after { IfOk result (λ count. self.new ≡ counted (taken count which self.old.stored) self.old) }
         ensures fault { OnErr result (self.new ≡ failed_in self.old) }
         ensures untouched { OnErr result (into.new ≡ into.old) }
     {
         if count_call(&mut self.calls, &self.failing) {
             return Err(count_fault(&mut self.faults_in));
         }
-        let count = match which {
-            In::Model => take_from(&self.files, &mut self.model, self.piece, into),
-            In::Log => take_from(&self.files, &mut self.log, self.piece, into),
-        };
-        Ok(count)
+        Ok(self.store.read(which, self.piece, into))
     }
 
     fn open_out(&mut self, which: Out, _name: &str) -> Result<(), Failed>
@@ -166,18 +140,13 @@ impl Desk for MemoryDesk {
 
         // It fails exactly where it is listed.
         ensures fails { IsErr result ↔ IsTrue (fails_next self.old) }
-        ensures after { OnOk result (self.new ≡ with_written which (Some []) (counted self.old)) }
+        ensures after { OnOk result (self.new ≡ counted (with_written which (Some []) self.old.stored) self.old) }
         ensures fault { OnErr result (self.new ≡ failed_out self.old) }
     {
         if count_call(&mut self.calls, &self.failing) {
             Err(count_fault(&mut self.faults_out))
         } else {
-            let empty = Sheet::Kept(Vec::new(self.alloc));
-            match which {
-                Out::Answer => self.answer = empty,
-                Out::First => self.first = empty,
-                Out::Second => self.second = empty,
-            }
+            self.store.open_out(which);
             Ok(())
         }
     }
@@ -195,19 +164,14 @@ impl Desk for MemoryDesk {
         // It fails exactly where it is listed.
         ensures fails { IsErr result ↔ IsTrue (fails_next self.old) }
         ensures moved { IfOk result (λ count. count ≡ min self.old.piece (length bytes.now)) }
-        ensures after { OnOk result (self.new ≡ with_written which (written_to which self.new) (counted self.old)) }
+        ensures after { OnOk result (self.new ≡ counted (with_written which (written_to which self.new.stored) self.old.stored) self.old) }
         ensures fault { OnErr result (self.new ≡ failed_out self.old) }
     {
         if count_call(&mut self.calls, &self.failing) {
             return Err(count_fault(&mut self.faults_out));
         }
         let count = self.piece.min(bytes.len());
-        let part = &bytes[..count];
-        match which {
-            Out::Answer => append(&mut self.answer, part),
-            Out::First => append(&mut self.first, part),
-            Out::Second => append(&mut self.second, part),
-        }
+        self.store.write(which, usize::MAX, &bytes[..count]);
         Ok(count)
     }
 }

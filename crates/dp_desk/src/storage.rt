@@ -1,10 +1,10 @@
-// What a desk in memory is made of: files by name, places in them, sheets that are written, and a count of calls.
+// Files by name and places in them, and counts of calls and faults.
 
 ghost use Rattle.std.specs.Prelude.{◌≡◌, ◌≤◌, ◌++◌, ◌==◌, Some, None, length, take, drop, min, option_map, position, bytes_eq, IfSome, IfNone};
 ghost use Rattle.std.specs.List.{list_any};
-ghost use Rattle.dp_desk.specs.Channel.{Shut};
-ghost use Rattle.dp_desk.specs.InMemory.{held, raised};
-ghost use Rattle.dp_desk.specs.Places.{bytes_at, left_bytes, left_at, channel_of, GrowsIfOpen};
+ghost use Rattle.dp_desk.specs.InMemory.{raised};
+ghost use Rattle.dp_desk.specs.Places.{bytes_at, left_bytes, left_at};
+ghost use Rattle.dp_desk.specs.Stored.{held};
 
 use crate::Failed;
 use crate::write::rest_of;
@@ -15,14 +15,6 @@ use dp_base::{Name, Text};
 pub(crate) struct Place {
     pub(crate) file: usize,
     pub(crate) at: usize,
-}
-
-// What was written to an output: it was not opened, a write found no memory, or all that was written.
-#[derive(Debug, Drop)]
-pub(crate) enum Sheet {
-    Shut,
-    Lost,
-    Kept(Vec<u8>),
 }
 
 // Counts one more call, and says whether it is listed.
@@ -85,17 +77,4 @@ pub(crate) fn take_from(
     into[..count].copy_from_slice(&left[..count]);
     open.at += count;
     count
-}
-
-// Appends to a sheet that is kept. Where no memory is found it is kept no more.
-pub(crate) fn append(sheet: &mut Sheet, bytes: &[u8])
-    ensures { GrowsIfOpen (channel_of sheet.old) (channel_of sheet.new) bytes.now }
-{
-    let grown = match sheet {
-        Sheet::Kept(written) => written.extend_from_slice(bytes).is_ok(),
-        _ => true,
-    };
-    if !grown {
-        *sheet = Sheet::Lost;
-    }
 }

@@ -1,5 +1,5 @@
 use super::*;
-use dp_base::{Name, Text};
+use dp_base::{Memory, Name, Text};
 use std::alloc::{AllocError, Global};
 use std::fs;
 use std::test::Fail;
@@ -17,6 +17,11 @@ fn files(alloc: Global) -> Result<Vec<(Name, Text)>, AllocError> {
 // A desk with these files, which moves four bytes at once, and of which one call fails.
 fn desk_failing_at(alloc: Global, call: u64) -> Result<MemoryDesk, AllocError> {
     Ok(MemoryDesk::new(alloc, files(alloc)?, 4, [call].to_vec(alloc)?))
+}
+
+// A desk with these files, which never fails and tells eight bytes of an output.
+fn honest_desk(alloc: Global) -> Result<HonestDesk, Memory> {
+    HonestDesk::new(alloc, files(alloc)?, 8)
 }
 
 // Opens an input and reads once: how many bytes came into a buffer of 6, and the buffer.
@@ -121,6 +126,70 @@ fn a_failed_write_ends_a_text(rt: HostRuntime) -> Result<(), Fail> {
             Some(want)
         );
     }
+    Ok(())
+}
+
+#[test]
+fn every_name_is_held(rt: HostRuntime) -> Result<(), Fail> {
+    let mut desk = honest_desk(rt.alloc())?;
+    let rows = [
+        ("m", Ok((6, *b"abcdef"))),
+        ("absent", Ok((0, [0; 6]))),
+        ("l", Ok((2, *b"xy\0\0\0\0"))),
+        ("m", Ok((6, *b"abcdef"))),
+    ];
+    for (name, want) in rows {
+        assert_eq!(rt; first_read(&mut desk, In::Model, name), want, "{name}");
+        assert_eq!(rt; first_read(&mut desk, In::Log, name), want, "{name}");
+    }
+    assert_eq!(rt; four_reads(&mut desk, "m"), Ok([6, 3, 1, 0]));
+    Ok(())
+}
+
+#[test]
+fn outputs_are_told_while_they_fit(rt: HostRuntime) -> Result<(), Fail> {
+    let mut desk = honest_desk(rt.alloc())?;
+    assert_eq!(rt; desk.written(Out::First), None);
+    let rows = [
+        ("01234567", true),
+        ("", true),
+        ("012345678", false),
+        ("abc", true),
+    ];
+    for (text, told) in rows {
+        assert_eq!(rt; write_text(&mut desk, "f", text), Ok(()));
+        let written = desk.written(Out::First).unwrap_or(b"not told");
+        let want = if told { text } else { "not told" };
+        assert_eq!(rt; written, want.as_bytes());
+    }
+    Ok(())
+}
+
+#[test]
+fn a_write_past_the_room_takes_the_bytes(rt: HostRuntime) -> Result<(), Fail> {
+    let mut desk = honest_desk(rt.alloc())?;
+    assert_eq!(rt; desk.write(Out::Answer, b"hello")?, 5);
+    assert_eq!(rt; desk.written(Out::Answer), Some(b"hello".as_slice()));
+    assert_eq!(rt; desk.write(Out::Answer, b"once more")?, 9);
+    assert_eq!(rt; desk.written(Out::Answer), None);
+    assert_eq!(rt; desk.write(Out::Answer, b"")?, 0);
+    assert_eq!(rt; desk.written(Out::Answer), None);
+    Ok(())
+}
+
+#[test]
+fn a_text_is_copied_between_honest_names(rt: HostRuntime) -> Result<(), Fail> {
+    let mut desk = honest_desk(rt.alloc())?;
+    assert_eq!(rt; copy_once(&mut desk, "m", "s")?, 6);
+    assert_eq!(rt; desk.written(Out::Second), Some(b"abcdef".as_slice()));
+    Ok(())
+}
+
+#[test]
+fn an_absent_name_is_copied_as_an_empty_text(rt: HostRuntime) -> Result<(), Fail> {
+    let mut desk = honest_desk(rt.alloc())?;
+    assert_eq!(rt; copy_once(&mut desk, "absent", "s")?, 0);
+    assert_eq!(rt; desk.written(Out::Second), Some(b"".as_slice()));
     Ok(())
 }
 
