@@ -55,7 +55,7 @@ given_small p text s e = read_small text (by_progress (gather_all p (Ok nothing)
 -- ---- the outcome
 
 -- where it is processed, a scaffold was given
-done_of : (p : Csp) (out : List ℕ) (a : ScaffoldAnswer) (done : Done) → IsOutcome p out a (outcome.Done done) → (s : Learned) × (a ≡ answer.Given s) × IsDone p out s done
+pub done_of : (p : Csp) (out : List ℕ) (a : ScaffoldAnswer) (done : Done) → IsOutcome p out a (outcome.Done done) → (s : Learned) × (a ≡ answer.Given s) × IsDone p out s done
 done_of p out (answer.Given s) done h = (s, refl, h)
 done_of p out (answer.Unread refusal) done h = absurd cc
 done_of p out (answer.Refused refusal text) done h = absurd cc

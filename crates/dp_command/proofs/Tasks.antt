@@ -1,5 +1,5 @@
 -- A task that is a reply, and one that is a search.
-use Rattle.std.specs.Prelude.{◌≡◌, ℕ, Option, Result, Err, List}
+use Rattle.std.specs.Prelude.{◌≡◌, ℕ, Option, Result, Err, IsErrOf, List}
 use Rattle.std.proofs.Common.{ap, subst}
 use Rattle.dp_desk.specs.Causes.{Rose}
 use Rattle.dp_desk.specs.Channel.{Files}
@@ -34,6 +34,9 @@ search_due names words task search is h = subst (λ (t : Task). IsTask names wor
 
 pub search_good : (X : Type 0) (task : Task) (search : Search) → task ≡ Solve search → IfGood task X → X
 search_good X task search is h = subst (λ (t : Task). IfGood t X) is h
+
+pub fault_is : (e : Trouble) → e ≡ ReadFault → IsErrOf {T = Task} (Err e) ReadFault
+fault_is e is = ap (λ (t : Trouble). let r : Result Task Trouble = Err t in r) is
 
 -- a read fault is counted
 pub fault_rose : (before now : ℕ) (e : Trouble) → HasReadCause {T = Task} before now (Err e) → e ≡ ReadFault → Rose before now

@@ -1,6 +1,7 @@
 pub mod Asked
 pub mod Due
 pub mod Inputs
+pub mod Pieces
 pub mod Named
 pub mod Outcomes
 pub mod Replies
@@ -13,3 +14,4 @@ pub mod Proven
 pub mod Found
 pub mod Solving
 pub mod Tasks
+pub mod Patience

@@ -1,28 +1,33 @@
 // The command that judges a log of a model.
 
-ghost use Rattle.std.specs.Prelude.{◌≡◌, IfOk};
+ghost use Rattle.std.specs.Prelude.{◌≡◌, IfOk, IsErrOf};
 ghost use Rattle.dp_desk.specs.Channel.{IsAtEnd};
 ghost use Rattle.dp_desk.specs.Sight.{with_input};
-ghost use Rattle.dp_judge.specs.Logs.{IsGoalAnswer};
+ghost use Rattle.dp_judge.specs.Logs.{IsGoalAnswer, has_no_refusal};
+ghost use Rattle.dp_parts.specs.Problems.{posed};
 ghost use Rattle.dp_command.specs.Inputs.{HasReadCause};
 ghost use Rattle.dp_command.specs.Due.{AreAtEnd, ChangesInputs, LeavesUnread};
+ghost use Rattle.dp_command.specs.Patience.{HasPatience};
+ghost use Rattle.dp_command.specs.Pieces.{IsPatient};
 ghost use Rattle.dp_command.specs.Proved.{IsSoundTo};
 ghost use Rattle.dp_command.specs.Replies.{IsJudged, RepliesTo, reply_of};
 ghost use Rattle.dp_command.specs.Texts.{status_of};
 ghost use Rattle.dp_command.specs.Words.{Check};
+ghost use Rattle.dp_command.specs.declared.trouble.Trouble.TheVariants.{ReadFault};
 
 use crate::Trouble;
 use crate::finding::{Found, read_problem};
+use crate::judging::judge_read;
 use crate::naming::claim_of;
-use crate::reading::{MOST_OF_LOG, read_whole};
+use crate::reading::MOST_OF_LOG;
 use crate::reply::Reply;
 use dp_base::Memory;
 use dp_desk::{Desk, In};
-use dp_judge::{LogAnswer, judge_log};
+use dp_judge::{Judging, LogAnswer};
 use dp_parts::Problem;
 use std::alloc::Global;
 
-/// Judges a log of a model, and writes nothing. The log is opened where the model is not refused.
+/// Judges a log of a model while it is read, and writes nothing. The log is opened where the model is not refused.
 pub(crate) fn check<D: Desk>(
     alloc: Global,
     model: &str,
@@ -32,6 +37,7 @@ pub(crate) fn check<D: Desk>(
     ensures due { IfOk result (λ reply. RepliesTo (D.sight desk.old).names (Check model.now log.now) reply) }
     ensures sound { IfOk result (λ reply. IsSoundTo (D.sight desk.old).names (Check model.now log.now) reply) }
     ensures ended { IfOk result (λ reply. status_of reply ≡ 0 → AreAtEnd (Check model.now log.now) (D.sight desk.new)) }
+    ensures patient { IsErrOf result ReadFault → HasPatience (D.sight desk.old).names (Check model.now log.now) (D.sight desk.old).log (D.sight desk.new).log }
     ensures unread { IfOk result (λ reply. LeavesUnread reply (D.sight desk.old) (D.sight desk.new)) }
     ensures rest { ChangesInputs (D.sight desk.old) (D.sight desk.new) }
     ensures cause { HasReadCause (D.faults_in desk.old) (D.faults_in desk.new) result }
@@ -43,7 +49,7 @@ pub(crate) fn check<D: Desk>(
     }
 }
 
-// Reads a log and judges it.
+// Judges a log while it is read.
 fn judge_input<D: Desk>(
     alloc: Global,
     problem: &Problem,
@@ -52,12 +58,13 @@ fn judge_input<D: Desk>(
 ) -> Result<Reply, Trouble>
     ensures reply { IfOk result (IsJudged (D.sight desk.old).names name.now problem.now) }
     ensures ended { IfOk result (λ reply. status_of reply ≡ 0 → IsAtEnd (D.sight desk.new).log) }
+    ensures patient { IsErrOf result ReadFault → IsPatient (has_no_refusal (posed problem.now)) (D.sight desk.old).names name.now (D.sight desk.old).log (D.sight desk.new).log }
     ensures rest { D.sight desk.new ≡ with_input In.Log (D.sight desk.new).log (D.sight desk.old) }
     ensures cause { HasReadCause (D.faults_in desk.old) (D.faults_in desk.new) result }
     ensures other { D.faults_out desk.new ≡ D.faults_out desk.old }
 {
-    let lines = read_whole(alloc, desk, In::Log, name, MOST_OF_LOG)?;
-    let answer = judge_log(alloc, problem, lines.as_slice())?;
+    let judging = Judging::new(alloc, problem)?;
+    let answer = judge_read(alloc, desk, In::Log, name, MOST_OF_LOG, judging)?;
     Ok(reply_of(alloc, problem, answer)?)
 }
 

@@ -3,6 +3,7 @@
 
 mod check;
 mod finding;
+mod judging;
 mod naming;
 mod outcome;
 mod process;
@@ -31,5 +32,7 @@ const WRITE_FAULT: u8 = 6;
 // The status where an allocation was refused.
 const OUT_OF_MEMORY: u8 = 7;
 
+#[cfg(test)]
+mod fault_tests;
 #[cfg(test)]
 mod tests;

@@ -1,6 +1,6 @@
 // The command that processes a scaffold of a model.
 
-ghost use Rattle.std.specs.Prelude.{◌≡◌, ◌<◌, ◌≤◌, ◌-◌, ◌^◌, IfOk, length};
+ghost use Rattle.std.specs.Prelude.{◌≡◌, ◌<◌, ◌-◌, IfOk, IsErrOf, length};
 ghost use Rattle.dp_desk.specs.Channel.{IsAtEnd};
 ghost use Rattle.dp_desk.specs.Sight.{with_input};
 ghost use Rattle.dp_domain.specs.States.{AreOf};
@@ -8,26 +8,30 @@ ghost use Rattle.dp_judge.specs.Logs.{IsOfGoal};
 ghost use Rattle.dp_parts.specs.Problems.{posed};
 ghost use Rattle.dp_process.specs.Answers.{IsFailingAt};
 ghost use Rattle.dp_scaffold.specs.Scaffolds.{IsScaffoldOf};
-ghost use Rattle.dp_scaffold.specs.Texts.{scaffold_text};
+ghost use Rattle.dp_scaffold.specs.Texts.{IsScaffoldAnswer, has_no_refusal};
 ghost use Rattle.dp_command.specs.Inputs.{HasReadCause};
 ghost use Rattle.dp_command.specs.Due.{AreAtEnd, ChangesInputs, LeavesUnread};
 ghost use Rattle.dp_command.specs.Outcomes.{IsDone, IsFailingOf, IsOutcome, IsOutcomeOf, claim_line, nogood_line, told_at};
+ghost use Rattle.dp_command.specs.Patience.{HasPatience};
+ghost use Rattle.dp_command.specs.Pieces.{IsPatient};
 ghost use Rattle.dp_command.specs.Replies.{IsProcessed, RepliesTo};
 ghost use Rattle.dp_command.specs.Texts.{outcome_status, status_of};
 ghost use Rattle.dp_command.specs.Words.{Process};
+ghost use Rattle.dp_command.specs.declared.trouble.Trouble.TheVariants.{ReadFault};
 
 use crate::Trouble;
 use crate::finding::{Found, read_problem};
+use crate::judging::judge_read;
 use crate::naming::{claim_of, push_conjunction};
 use crate::outcome::{Done, Failing, Outcome};
-use crate::reading::{MOST_OF_LOG, read_whole};
+use crate::reading::MOST_OF_LOG;
 use crate::reply::{Reply, push_claim};
 use dp_base::{Memory, Text};
 use dp_desk::{Desk, In};
 use dp_domain::{Atom, Verdict};
 use dp_parts::Problem;
 use dp_process::ProcessRefusal;
-use dp_scaffold::{Scaffold, ScaffoldAnswer, read_scaffold};
+use dp_scaffold::{Scaffold, ScaffoldAnswer, ScaffoldReading};
 use std::alloc::Global;
 
 #[cfg(test)]
@@ -43,6 +47,7 @@ pub(crate) fn process<D: Desk>(
 ) -> Result<Reply, Trouble>
     ensures due { IfOk result (λ reply. RepliesTo (D.sight desk.old).names (Process model.now scaffold.now out.now) reply) }
     ensures ended { IfOk result (λ reply. status_of reply ≡ 0 → AreAtEnd (Process model.now scaffold.now out.now) (D.sight desk.new)) }
+    ensures patient { IsErrOf result ReadFault → HasPatience (D.sight desk.old).names (Process model.now scaffold.now out.now) (D.sight desk.old).log (D.sight desk.new).log }
     ensures unread { IfOk result (λ reply. LeavesUnread reply (D.sight desk.old) (D.sight desk.new)) }
     ensures rest { ChangesInputs (D.sight desk.old) (D.sight desk.new) }
     ensures cause { HasReadCause (D.faults_in desk.old) (D.faults_in desk.new) result }
@@ -57,7 +62,7 @@ pub(crate) fn process<D: Desk>(
     }
 }
 
-// Reads a scaffold and processes it.
+// Judges a scaffold while it is read, and processes it.
 fn process_input<D: Desk>(
     alloc: Global,
     problem: &Problem,
@@ -67,21 +72,27 @@ fn process_input<D: Desk>(
 ) -> Result<Outcome, Trouble>
     ensures outcome { IfOk result (IsProcessed (D.sight desk.old).names name.now out.now problem.now) }
     ensures ended { IfOk result (λ outcome. outcome_status outcome ≡ 0 → IsAtEnd (D.sight desk.new).log) }
+    ensures patient { IsErrOf result ReadFault → IsPatient (has_no_refusal (posed problem.now)) (D.sight desk.old).names name.now (D.sight desk.old).log (D.sight desk.new).log }
     ensures rest { D.sight desk.new ≡ with_input In.Log (D.sight desk.new).log (D.sight desk.old) }
     ensures cause { HasReadCause (D.faults_in desk.old) (D.faults_in desk.new) result }
     ensures other { D.faults_out desk.new ≡ D.faults_out desk.old }
 {
-    let lines = read_whole(alloc, desk, In::Log, name, MOST_OF_LOG)?;
-    let outcome = outcome_of(alloc, problem, lines.as_slice(), out)?;
-    Ok(outcome)
+    let reading = ScaffoldReading::new(alloc, problem)?;
+    let answer = judge_read(alloc, desk, In::Log, name, MOST_OF_LOG, reading)?;
+    Ok(outcome_of(alloc, problem, answer, out)?)
 }
 
-// What becomes of the scaffold that the bytes say.
-fn outcome_of(alloc: Global, problem: &Problem, lines: &[u8], out: &str) -> Result<Outcome, Memory>
-    requires { length lines.now ≤ 2 ^ 62 }
-    ensures { IfOk result (IsOutcome problem.now out.now (scaffold_text (posed problem.now) lines.now)) }
+// What becomes of what is answered for a scaffold's bytes.
+fn outcome_of(
+    alloc: Global,
+    problem: &Problem,
+    answer: ScaffoldAnswer,
+    out: &str,
+) -> Result<Outcome, Memory>
+    requires { IsScaffoldAnswer problem.now answer }
+    ensures { IfOk result (IsOutcome problem.now out.now answer) }
 {
-    match read_scaffold(alloc, problem, lines)? {
+    match answer {
         ScaffoldAnswer::Given(scaffold) => process_scaffold(alloc, problem, &scaffold, out),
         ScaffoldAnswer::Unread(refusal) => Ok(Outcome::Unread(refusal)),
         ScaffoldAnswer::Refused(refusal, text) => Ok(Outcome::Refused(refusal, text)),

@@ -1,10 +1,12 @@
 // The top call.
 
-ghost use Rattle.std.specs.Prelude.{◌≡◌, ◌≢◌, ◌⊎◌, ◌<◌, ◌≤◌, map, IfOk};
+ghost use Rattle.std.specs.Prelude.{◌≡◌, ◌≢◌, ◌⊎◌, ◌<◌, ◌≤◌, map, IfOk, IsErrOf};
 ghost use Rattle.dp_desk.specs.Channel.{Grows};
 ghost use Rattle.dp_desk.specs.Causes.{Rose};
 ghost use Rattle.dp_command.specs.Asked.{asked};
+ghost use Rattle.dp_command.specs.Patience.{HasPatience, WasPatient};
 ghost use Rattle.dp_command.specs.Words.{IsCheck, IsInRange, IsProcess, IsProve, IsShow, IsSolve};
+ghost use Rattle.dp_command.specs.declared.trouble.Trouble.TheVariants.{ReadFault};
 ghost use Rattle.dp_command.specs.Inputs.{HasReadCause};
 ghost use Rattle.dp_command.specs.Due.{Said, SaidPart, ChangesInputs, ChangesOutputs, LeavesUnasked, AreAtEnd, ReadsToEnd};
 ghost use Rattle.dp_command.specs.Proved.{FilesProof, SaysTruth};
@@ -28,7 +30,8 @@ use std::alloc::Global;
 
 /// Does what the words ask for over a desk, and answers the status that the program ends with.
 ///
-/// The words are judged first, then the model, then the log or the scaffold; a log is shown without a model, and a model
+/// The words are judged first, then the model, then the log or the scaffold, line by line while it is read: a refusal
+/// at a line comes before a later read. A log is shown without a model, and a model
 /// is solved and proved without a log. Status 0 comes where the log is accepted or shown to its end, the scaffold is
 /// processed or the model is solved or proved, 1 where it is refused, 2 where the words are no command, 3 where the model
 /// is refused, 4 where the most nogoods were learned, 5 and 6 where an input and where an output failed, and 7 for want
@@ -66,6 +69,8 @@ pub fn run<D: Desk>(alloc: Global, words: &[&str], desk: &mut D) -> u8
     // Faults come only where an input or an output failed, and are never hidden.
     ensures read_fault { result ≡ 5 → Rose (D.faults_in desk.old) (D.faults_in desk.new) × Grows (D.sight desk.old).answer (D.sight desk.new).answer read_fault }
     ensures write_fault { result ≡ 6 → Rose (D.faults_out desk.old) (D.faults_out desk.new) }
+    // A read fault comes only where no line that was read whole before it is refused.
+    ensures patient { let texts = map (λ w. w.now) words.now in result ≡ 5 → WasPatient (D.sight desk.old).names texts (D.sight desk.old).log (D.sight desk.new).log }
     ensures in_seen { D.faults_in desk.old < D.faults_in desk.new → 5 ≤ result }
     ensures out_seen { let texts = map (λ w. w.now) words.now in D.faults_out desk.old < D.faults_out desk.new → result ≡ 6 ⊎ (result ≡ 7 × IsSolve texts) }
     ensures in_counted { D.faults_in desk.old ≤ D.faults_in desk.new }
@@ -96,6 +101,7 @@ fn task_of<D: Desk>(alloc: Global, words: &[&str], desk: &mut D) -> Result<Task,
     ensures due { let texts = map (λ w. w.now) words.now in IfOk result (IsTask (D.sight desk.old).names texts) }
     ensures sound { let texts = map (λ w. w.now) words.now in IfOk result (IsSoundTask (D.sight desk.old).names texts) }
     ensures ended { let texts = map (λ w. w.now) words.now in IfOk result (λ task. IfGood task (ReadsToEnd texts (D.sight desk.new))) }
+    ensures patient { let texts = map (λ w. w.now) words.now in IsErrOf result ReadFault → WasPatient (D.sight desk.old).names texts (D.sight desk.old).log (D.sight desk.new).log }
     ensures unread { IfOk result (λ task. LeavesUnreadBy task (D.sight desk.old) (D.sight desk.new)) }
     ensures unread_model { let texts = map (λ w. w.now) words.now in IsShow texts → (D.sight desk.new).model ≡ (D.sight desk.old).model }
     ensures unread_log { let texts = map (λ w. w.now) words.now in IsSolve texts → (D.sight desk.new).log ≡ (D.sight desk.old).log }
@@ -116,6 +122,7 @@ fn obey<D: Desk>(alloc: Global, command: Command<'_>, desk: &mut D) -> Result<Ta
     ensures due { IfOk result (IsTaskTo (D.sight desk.old).names (asked command.entry)) }
     ensures sound { IfOk result (IsSoundTaskTo (D.sight desk.old).names (asked command.entry)) }
     ensures ended { IfOk result (λ task. IfGood task (AreAtEnd (asked command.entry) (D.sight desk.new))) }
+    ensures patient { IsErrOf result ReadFault → HasPatience (D.sight desk.old).names (asked command.entry) (D.sight desk.old).log (D.sight desk.new).log }
     ensures unread { IfOk result (λ task. LeavesUnreadBy task (D.sight desk.old) (D.sight desk.new)) }
     ensures unasked { LeavesUnasked (asked command.entry) (D.sight desk.old) (D.sight desk.new) }
     ensures rest { ChangesInputs (D.sight desk.old) (D.sight desk.new) }

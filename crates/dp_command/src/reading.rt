@@ -87,8 +87,8 @@ fn read_piece<D: Desk>(
     Ok(count)
 }
 
-// Room for one read.
-fn blank_piece(alloc: Global) -> Result<Vec<u8>, Memory>
+/// Room for one read.
+pub(crate) fn blank_piece(alloc: Global) -> Result<Vec<u8>, Memory>
     ensures { IfOk result (λ piece. length piece.items ≡ PIECE) }
 {
     Ok(vec![in alloc; 0; PIECE]?)

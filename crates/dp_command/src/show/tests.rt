@@ -115,13 +115,13 @@ fn steps_before_a_refused_line_are_shown(rt: HostRuntime) -> Result<(), Fail> {
     Ok(())
 }
 
-// Opening the log, two reads, and a write.
+// Opening the log, two reads, and a write; behind a refused line there is no second read.
 #[test]
 fn failed_calls_are_told(rt: HostRuntime) -> Result<(), Fail> {
     let alloc = rt.alloc();
     let log = format!(in alloc; "{STEPS}{END}")?;
-    for (log, done) in [(log.as_str(), 0), (REFUSED, 1)] {
-        for call in 1..4 {
+    for (log, done, write, behind) in [(log.as_str(), 0, 4, 5), (REFUSED, 1, 3, 4)] {
+        for call in 1..write {
             let (status, answer) = shown(alloc, log.as_bytes(), 1_000_000, &[call])?;
             assert_eq!(rt; status, 5, "call {call} fails");
             assert_eq!(rt;
@@ -137,11 +137,11 @@ fn failed_calls_are_told(rt: HostRuntime) -> Result<(), Fail> {
                 "call {call} and the next fail"
             );
         }
-        let (status, answer) = shown(alloc, log.as_bytes(), 1_000_000, &[4])?;
+        let (status, answer) = shown(alloc, log.as_bytes(), 1_000_000, &[write])?;
         assert_eq!(rt; status, 6, "the write fails");
         assert_eq!(rt; answer.as_slice(), b"".as_slice(), "the write fails");
-        let (status, _) = shown(alloc, log.as_bytes(), 1_000_000, &[5])?;
-        assert_eq!(rt; status, done, "there are four calls");
+        let (status, _) = shown(alloc, log.as_bytes(), 1_000_000, &[behind])?;
+        assert_eq!(rt; status, done, "no call follows");
     }
     let (status, answer) = answered(
         alloc,
@@ -160,11 +160,11 @@ fn failed_calls_are_told(rt: HostRuntime) -> Result<(), Fail> {
     Ok(())
 }
 
-// In pieces of 16 bytes: opening the log, four reads, and four writes.
+// In pieces of 16 bytes: opening the log, two reads, of which the second brings the refused line, and four writes.
 #[test]
 fn a_failed_call_in_the_middle_is_told(rt: HostRuntime) -> Result<(), Fail> {
     let alloc = rt.alloc();
-    for call in 1..6 {
+    for call in 1..4 {
         let (status, answer) = shown(alloc, REFUSED.as_bytes(), 16, &[call])?;
         assert_eq!(rt; status, 5, "call {call} fails");
         assert_eq!(rt;
@@ -173,7 +173,7 @@ fn a_failed_call_in_the_middle_is_told(rt: HostRuntime) -> Result<(), Fail> {
             "call {call} fails"
         );
     }
-    for (call, written) in [(6, 0), (7, 16), (8, 32), (9, 48)] {
+    for (call, written) in [(4, 0), (5, 16), (6, 32), (7, 48)] {
         let (status, answer) = shown(alloc, REFUSED.as_bytes(), 16, &[call])?;
         assert_eq!(rt; status, 6, "call {call} fails");
         assert_eq!(rt;
@@ -182,12 +182,12 @@ fn a_failed_call_in_the_middle_is_told(rt: HostRuntime) -> Result<(), Fail> {
             "call {call} fails"
         );
     }
-    let (status, answer) = shown(alloc, REFUSED.as_bytes(), 16, &[10])?;
-    assert_eq!(rt; status, 1, "there are nine calls");
+    let (status, answer) = shown(alloc, REFUSED.as_bytes(), 16, &[8])?;
+    assert_eq!(rt; status, 1, "there are seven calls");
     assert_eq!(rt;
         answer.as_slice(),
         SHOWN_REFUSED.as_bytes(),
-        "there are nine calls"
+        "there are seven calls"
     );
     Ok(())
 }

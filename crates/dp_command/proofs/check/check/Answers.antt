@@ -5,6 +5,7 @@ use Rattle.dp_command.specs.Found.{IsFound}
 use Rattle.dp_command.specs.Words.{Check}
 use Rattle.dp_command.specs.declared.finding.Found.{Found}
 use Rattle.dp_command.proofs.Checks.{due_at, ended_at, if_ok, refused_of, sound_at, unread_of}
+use Rattle.dp_command.proofs.Patience.{check_patient}
 use Rattle.dp_command.proofs.check.check.Goals as goal
 
 pub returns-in-Problem-clause-due : goal.returns-in-Problem-clause-due
@@ -28,3 +29,8 @@ pub returns-in-Refusal-clause-due : goal.returns-in-Refusal-clause-due
 returns-in-Refusal-clause-due g c =
     refused_of (g.D.Desk.sight c.args.desk.now).names (Check c.args.model.now c.args.log.now) c.args.model.now c.in-Refusal.refusal refl
     (subst (λ (w : Found). IsFound (g.D.Desk.sight c.args.desk.now).names c.args.model.now w) c.in-Refusal.is c.in_ok-_model.ensures.read)
+
+pub returns-in-Problem-clause-patient : goal.returns-in-Problem-clause-patient
+returns-in-Problem-clause-patient g c = λ e.
+    check_patient (g.D.Desk.sight c.args.desk.now).names _ c.args.model.now c.args.log.now _ c.in-Problem.problem c.in_ok-_model.field-0 _ _ _
+    (ap (λ (t : Sight). t.names) c.read_problem.ensures.rest) (ap (λ (t : Sight). t.log) c.read_problem.ensures.rest) c.in-Problem.is c.in_ok-_model.ensures.read (c.judge_input.ensures.patient e)

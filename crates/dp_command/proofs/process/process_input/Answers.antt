@@ -1,10 +1,25 @@
--- A scaffold that is processed was read to its end.
-use Rattle.std.specs.Prelude.{◌<◌, ◌+◌, ◌^◌, ℕ, List, length}
-use Rattle.std.proofs.Common.{subst}
-use Rattle.dp_command.proofs.Processes.{outcome_ended}
+-- What becomes of a scaffold that is judged while it is read.
+use Rattle.dp_command.proofs.Judgings.{gathered_patient, processed_ended, processed_of, scaffold_of}
+use Rattle.dp_command.proofs.Patience.{handed_on}
 use Rattle.dp_command.proofs.process.process_input.Goals as goal
 
+pub outcome_of-requires : goal.outcome_of-requires
+outcome_of-requires g c =
+    scaffold_of (g.D.Desk.sight c.args.desk.now).names c.args.name.now c.args.problem.now c.in_ok-reading.reading (g.D.Desk.sight c.judge_read.new.desk).log c.in_ok-answer.answer
+    c.in_ok-reading.ensures.problem c.in_ok-answer.ensures.answer
+
+pub returns-clause-outcome : goal.returns-clause-outcome
+returns-clause-outcome g c =
+    processed_of (g.D.Desk.sight c.args.desk.now).names c.args.name.now c.args.out.now c.args.problem.now c.in_ok-reading.reading (g.D.Desk.sight c.judge_read.new.desk).log c.in_ok-answer.answer
+    c.in_ok-outcome_of.field-0 c.in_ok-reading.ensures.problem c.in_ok-answer.ensures.answer c.in_ok-outcome_of.ensures
+
 pub returns-clause-ended : goal.returns-clause-ended
-returns-clause-ended g c =
-    outcome_ended c.args.problem.now c.args.out.now c.as_slice.result.now (g.D.Desk.sight c.read_whole.new.desk).log c.in_ok-outcome.outcome c.in_ok-outcome.ensures
-    (λ k. c.in_ok-lines.ensures.end (subst (λ (t : List ℕ). length t < 2 ^ 40 + 1) c.as_slice.ensures.value k))
+returns-clause-ended g c = λ e.
+    processed_ended (g.D.Desk.sight c.args.desk.now).names c.args.name.now c.args.out.now c.args.problem.now c.in_ok-reading.reading (g.D.Desk.sight c.judge_read.new.desk).log c.in_ok-answer.answer
+    c.in_ok-outcome_of.field-0 c.in_ok-reading.ensures.problem c.in_ok-answer.ensures.answer c.in_ok-outcome_of.ensures e
+
+pub returns-in_err-answer-clause-patient : goal.returns-in_err-answer-clause-patient
+returns-in_err-answer-clause-patient g c = λ e.
+    gathered_patient (g.D.Desk.sight c.args.desk.now).names c.args.name.now c.args.problem.now c.in_ok-reading.reading (g.D.Desk.sight c.args.desk.now).log (g.D.Desk.sight c.judge_read.new.desk).log
+    c.in_ok-reading.ensures.problem (c.judge_read.ensures.patient
+    (handed_on c.judge_read.result c.from_residual-in_err-answer.result c.in_err-answer.field-0.0 c.in_err-answer.was c.from_residual-in_err-answer.ensures.1 e))

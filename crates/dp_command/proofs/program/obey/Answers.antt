@@ -1,9 +1,11 @@
 -- What a command asks for is what its reply belongs to.
 use Rattle.std.proofs.Common.{sym, subst}
 use Rattle.dp_command.specs.Asked.{asked}
+use Rattle.dp_command.specs.Patience.{HasPatience}
 use Rattle.dp_command.specs.Proved.{IsSoundTo}
 use Rattle.dp_command.specs.Replies.{RepliesTo}
 use Rattle.dp_command.specs.declared.words.Command.{Command}
+use Rattle.dp_command.proofs.Patience.{handed_on}
 use Rattle.dp_command.proofs.program.obey.Goals as goal
 
 pub returns-in_ok-check-in-Check-clause-due : goal.returns-in_ok-check-in-Check-clause-due
@@ -25,3 +27,15 @@ returns-in_ok-prove-in-Prove-clause-due g c =
 pub returns-in_ok-prove-in-Prove-clause-sound : goal.returns-in_ok-prove-in-Prove-clause-sound
 returns-in_ok-prove-in-Prove-clause-sound g c =
     subst (λ (k : Command). IsSoundTo (g.D.Desk.sight c.args.desk.now).names (asked k) c.in_ok-prove-in-Prove.field-0) (sym c.in-Prove.is) c.in_ok-prove-in-Prove.ensures.sound
+
+-- ---- a read fault that is handed on
+
+pub returns-in_err-check-in-Check-clause-patient : goal.returns-in_err-check-in-Check-clause-patient
+returns-in_err-check-in-Check-clause-patient g c = λ e.
+    subst (λ (k : Command). HasPatience (g.D.Desk.sight c.args.desk.now).names (asked k) (g.D.Desk.sight c.args.desk.now).log (g.D.Desk.sight c.check.new.desk).log) (sym c.in-Check.is)
+    (c.check.ensures.patient (handed_on c.check.result c.from_residual.result c.in_err-check-in-Check.field-0.0 c.in_err-check-in-Check.was c.from_residual.ensures.1 e))
+
+pub returns-in_err-process-in-Process-clause-patient : goal.returns-in_err-process-in-Process-clause-patient
+returns-in_err-process-in-Process-clause-patient g c = λ e.
+    subst (λ (k : Command). HasPatience (g.D.Desk.sight c.args.desk.now).names (asked k) (g.D.Desk.sight c.args.desk.now).log (g.D.Desk.sight c.process.new.desk).log) (sym c.in-Process.is)
+    (c.process.ensures.patient (handed_on c.process.result c.from_residual-in_err-process-in-Process.result c.in_err-process-in-Process.field-0.0 c.in_err-process-in-Process.was c.from_residual-in_err-process-in-Process.ensures.1 e))

@@ -2,10 +2,11 @@
 use Rattle.std.specs.Prelude.{ℕ}
 use Rattle.std.proofs.Common.{◌∙◌, inl, inr, refl, subst, sym}
 use Rattle.dp_desk.specs.Causes.{Rose}
+use Rattle.dp_command.proofs.Patience.{said_patient}
 use Rattle.dp_command.proofs.Proves.{good_small, limit_said, one_small, says_said}
 use Rattle.dp_command.proofs.Says.{ended_said, filed_said, front_fault, front_said, handed_small, not_five, not_seven, refused_said, rest_said, rose_said, said_known, said_of, truth_said, unfiled, unfiled_words, unread_said, unsolved, zero_small}
 use Rattle.dp_command.proofs.Solves.{front_search, left_search, search_ends, search_not_five, searched_words, seen_search, solved_search, unopened}
-use Rattle.dp_command.proofs.Tasks.{fault_rose, reply_due, reply_good, reply_sound, reply_unread, search_due, search_good}
+use Rattle.dp_command.proofs.Tasks.{fault_is, fault_rose, reply_due, reply_good, reply_sound, reply_unread, search_due, search_good}
 use Rattle.dp_command.specs.Due.{ReadsToEnd}
 use Rattle.dp_command.specs.Texts.{file_of}
 use Rattle.dp_command.proofs.program.run.Goals as goal
@@ -75,6 +76,10 @@ pub returns-in-Ok-text-clause-read_fault : goal.returns-in-Ok-text-clause-read_f
 returns-in-Ok-text-clause-read_fault g c =
     λ e. absurd (not_five c.hand_over.result (handed_small c.in-Say.reply c.as_slice.result.now (file_of c.in-Say.reply) (g.D.Desk.sight c.task_of.new.desk) (g.D.Desk.sight c.hand_over.new.desk) c.hand_over.result (g.D.Desk.faults_out c.task_of.new.desk) (g.D.Desk.faults_out c.hand_over.new.desk) c.hand_over.ensures.said) e)
 
+pub returns-in-Ok-text-clause-patient : goal.returns-in-Ok-text-clause-patient
+returns-in-Ok-text-clause-patient g c =
+    λ e. absurd (not_five c.hand_over.result (handed_small c.in-Say.reply c.as_slice.result.now (file_of c.in-Say.reply) (g.D.Desk.sight c.task_of.new.desk) (g.D.Desk.sight c.hand_over.new.desk) c.hand_over.result (g.D.Desk.faults_out c.task_of.new.desk) (g.D.Desk.faults_out c.hand_over.new.desk) c.hand_over.ensures.said) e)
+
 pub returns-in-Ok-text-clause-front : goal.returns-in-Ok-text-clause-front
 returns-in-Ok-text-clause-front g c =
     λ e. inl (front_said (g.D.Desk.sight c.args.desk.now).names _ (Rose (g.D.Desk.faults_in c.args.desk.now) (g.D.Desk.faults_in c.hand_over.new.desk)) c.in-Say.reply
@@ -134,7 +139,15 @@ pub returns-in-Ok-clause-read_fault : goal.returns-in-Ok-clause-read_fault
 returns-in-Ok-clause-read_fault g c =
     λ e. absurd (search_not_five c.search.result (search_ends c.in-Solve.found c.search.result (g.D.Desk.sight c.task_of.new.desk) (g.D.Desk.sight c.search.new.desk) (g.D.Desk.faults_out c.task_of.new.desk) (g.D.Desk.faults_out c.search.new.desk) c.search.ensures.searched) e)
 
+pub returns-in-Ok-clause-patient : goal.returns-in-Ok-clause-patient
+returns-in-Ok-clause-patient g c =
+    λ e. absurd (search_not_five c.search.result (search_ends c.in-Solve.found c.search.result (g.D.Desk.sight c.task_of.new.desk) (g.D.Desk.sight c.search.new.desk) (g.D.Desk.faults_out c.task_of.new.desk) (g.D.Desk.faults_out c.search.new.desk) c.search.ensures.searched) e)
+
 -- ---- a read fault
+
+pub returns-in-Err-ReadFault-clause-patient : goal.returns-in-Err-ReadFault-clause-patient
+returns-in-Err-ReadFault-clause-patient g c = λ e.
+    said_patient (g.D.Desk.sight c.args.desk.now).names _ (g.D.Desk.sight c.args.desk.now) (g.D.Desk.sight c.task_of.new.desk) (g.D.Desk.sight c.say.new.desk) c.say.ensures.rest (c.in-Err-ReadFault.ensures.patient (fault_is c.in-Err-ReadFault.field-0 c.in-Err-ReadFault.field-0-is))
 
 pub returns-in-Err-ReadFault-clause-front : goal.returns-in-Err-ReadFault-clause-front
 returns-in-Err-ReadFault-clause-front g c = λ e.

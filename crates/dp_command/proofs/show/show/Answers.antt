@@ -1,10 +1,11 @@
--- A log that is shown to its end was read to its end.
-use Rattle.std.specs.Prelude.{◌<◌, ◌+◌, ◌^◌, ℕ, List, length}
-use Rattle.std.proofs.Common.{subst}
-use Rattle.dp_command.proofs.Shows.{shown_ended}
+-- What is shown of a log that is read.
+use Rattle.dp_command.proofs.Judgings.{shown_at_end, shown_of}
 use Rattle.dp_command.proofs.show.show.Goals as goal
 
+pub returns-clause-due : goal.returns-clause-due
+returns-clause-due g c =
+    shown_of (g.D.Desk.sight c.args.desk.now).names c.args.log.now c.in_ok-showing.showing (g.D.Desk.sight c.judge_read.new.desk).log c.in_ok-shown.shown c.in_ok-shown.ensures.answer
+
 pub returns-clause-ended : goal.returns-clause-ended
-returns-clause-ended g c =
-    shown_ended c.in_ok-shown.shown c.as_slice.result.now (g.D.Desk.sight c.read_whole.new.desk).log c.in_ok-shown.ensures.shown
-    (λ k. c.in_ok-lines.ensures.end (subst (λ (t : List ℕ). length t < 2 ^ 40 + 1) c.as_slice.ensures.value k))
+returns-clause-ended g c = λ e.
+    shown_at_end (g.D.Desk.sight c.args.desk.now).names c.args.log.now c.in_ok-showing.showing (g.D.Desk.sight c.judge_read.new.desk).log c.in_ok-shown.shown c.in_ok-shown.ensures.answer e
