@@ -15,6 +15,3 @@ pub use honest_desk::{HonestDesk, told_while_they_fit};
 pub use host_desk::HostDesk;
 pub use memory_desk::MemoryDesk;
 pub use write::write_all;
-
-#[cfg(test)]
-mod tests;

@@ -27,6 +27,3 @@ pub use support::supported_bound;
 pub use term::{Term, term_scope};
 pub use turn::search_turn;
 pub use verdict::Verdict;
-
-#[cfg(test)]
-mod tests;

@@ -15,8 +15,6 @@ mod sets;
 mod sides;
 mod sum;
 mod terms;
-#[cfg(test)]
-mod tests;
 mod types;
 
 pub use problem::lower;

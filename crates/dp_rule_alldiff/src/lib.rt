@@ -9,10 +9,3 @@ mod turn;
 
 pub use all_diff::AllDiff;
 pub use dp_domain::{Atom, Found, Memory, Rule, State, Steps, Term, Test, VarId};
-
-#[cfg(test)]
-mod direct_tests;
-#[cfg(test)]
-mod tests;
-#[cfg(test)]
-mod turn_tests;

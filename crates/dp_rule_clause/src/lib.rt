@@ -10,8 +10,3 @@ mod within;
 pub use dp_domain::{Atom, Dom, Found, Memory, Rule, State, Steps, Test, VarId};
 pub use nogood::Nogood;
 pub use within::{BadCondition, Within};
-
-#[cfg(test)]
-mod tests;
-#[cfg(test)]
-mod turn_tests;

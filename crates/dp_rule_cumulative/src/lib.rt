@@ -15,8 +15,3 @@ pub use cumulative::Cumulative;
 pub use dp_domain::{Atom, Found, Memory, Rule, State, Steps, Term, Test, VarId};
 pub use refusal::TaskRefusal;
 pub use task::Task;
-
-#[cfg(test)]
-mod tests;
-#[cfg(test)]
-mod turn_tests;

@@ -6,8 +6,3 @@ mod entries;
 
 pub use dp_domain::{Atom, Found, Memory, Rule, State, Steps, Term, Test, VarId};
 pub use element::Element;
-
-#[cfg(test)]
-mod tests;
-#[cfg(test)]
-mod turn_tests;

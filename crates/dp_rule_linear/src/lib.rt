@@ -15,10 +15,3 @@ pub use dp_domain::{Atom, Found, Memory, Rule, State, Steps, Test, VarId};
 pub use lin_le::LinLe;
 pub use lin_ne::LinNe;
 pub use refusal::LinRefusal;
-
-#[cfg(test)]
-mod bound_tests;
-#[cfg(test)]
-mod tests;
-#[cfg(test)]
-mod turn_tests;

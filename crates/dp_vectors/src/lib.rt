@@ -11,9 +11,13 @@ pub use spelling::reprint;
 #[cfg(test)]
 mod boolean_tests;
 #[cfg(test)]
+mod described;
+#[cfg(test)]
 mod integer_tests;
 #[cfg(test)]
 mod list_tests;
+#[cfg(test)]
+mod lowering_tests;
 #[cfg(test)]
 mod tests;
 #[cfg(test)]

@@ -27,7 +27,7 @@ fn prints(alloc: Global, text: &[u8], printed: &[u8]) -> bool {
 }
 
 // Texts, and how they are printed.
-const SPELLINGS: [(&[u8], &[u8]); 5] = [
+const SPELLINGS: [(&[u8], &[u8]); 6] = [
     (SCHEDULE, PRINTED),
     (PRINTED, PRINTED),
     (
@@ -41,6 +41,10 @@ const SPELLINGS: [(&[u8], &[u8]); 5] = [
     (
         b"var {2,1}: x :: output_var :: seen(1.5); var int: y = x; constraint set_in ( x , 3 .. 1 ) :: domain; solve :: s maximize y;",
         b"var {2,1}: x :: output_var;\nvar int: y = x;\nconstraint set_in(x,3..1);\nsolve maximize y;\n",
+    ),
+    (
+        b"int: n = -5; set of int: S = 1 .. 3; var bool: b = true; var 0..3: x; array [1..2] of var int: a :: output_array([1..2]) = [x,n]; constraint int_le(x,3); solve minimize x;",
+        b"int: n = -5;\nset of int: S = 1..3;\nvar bool: b = true;\nvar 0..3: x;\narray [1..2] of var int: a :: output_array([1..2]) = [x,n];\nconstraint int_le(x,3);\nsolve minimize x;\n",
     ),
 ];
 

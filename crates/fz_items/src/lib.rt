@@ -27,8 +27,6 @@ mod refused;
 mod rest;
 mod source;
 mod stop;
-#[cfg(test)]
-mod tests;
 mod text;
 mod unsupported;
 mod variables;

@@ -8,8 +8,6 @@ mod laws;
 mod lists;
 mod meant;
 mod model;
-#[cfg(test)]
-mod tests;
 mod whole;
 
 pub use constants::{Integers, Truths};

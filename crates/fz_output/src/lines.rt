@@ -141,6 +141,3 @@ pub fn solution_lines(alloc: Global, model: &Model, values: &Assignment) -> Resu
 {
     lines_of(alloc, model.items(), values.values())
 }
-
-#[cfg(test)]
-mod tests;

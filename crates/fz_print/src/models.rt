@@ -203,6 +203,3 @@ fn print_text(alloc: Global, model: &Model) -> Result<Text, Memory>
 {
     print_parts(alloc, model.items(), model.constraints(), model.goal())
 }
-
-#[cfg(test)]
-mod tests;

@@ -17,8 +17,3 @@ mod wide;
 pub use args::{arg_elements, arg_set, arg_term, is_in_set, term_of};
 pub use models::{objective, satisfies};
 pub use variables::variable_count;
-
-#[cfg(test)]
-mod name_tests;
-#[cfg(test)]
-mod tests;

@@ -11,8 +11,6 @@ mod marks;
 mod number;
 mod quoted;
 mod scan;
-#[cfg(test)]
-mod tests;
 mod word;
 
 ghost use Rattle.std.specs.Prelude.{◌≡◌, ◌≤◌, length};

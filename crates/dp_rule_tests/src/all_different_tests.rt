@@ -1,5 +1,5 @@
-use super::*;
 use dp_domain::Dom;
+use dp_rule_alldiff::*;
 use dp_trials::{LARGEST, clash_at, state_of};
 use std::alloc::Global;
 use std::test::Fail;

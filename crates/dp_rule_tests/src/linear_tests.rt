@@ -1,5 +1,5 @@
-use super::*;
 use dp_domain::{Dom, Op};
+use dp_rule_linear::*;
 use dp_trials::{clash_at, is_counted, state_of};
 use std::alloc::Global;
 use std::test::Fail;

@@ -1,8 +1,8 @@
 // Turns and explanations of nogoods and restrictions, by hand.
 
-use super::*;
-use crate::tests::{atom, atoms, nogood};
+use crate::clause_tests::{atom, atoms, nogood};
 use dp_domain::Op;
+use dp_rule_clause::*;
 use dp_trials::{LARGEST, clashes, gives, leads, state_of};
 use std::alloc::Global;
 use std::test::Fail;

@@ -1,5 +1,5 @@
-use super::*;
 use dp_domain::Op;
+use dp_rule_clause::*;
 use dp_trials::{clash_at, is_counted, range, state_of};
 use std::alloc::Global;
 use std::test::Fail;

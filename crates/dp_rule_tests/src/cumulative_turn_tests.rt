@@ -1,8 +1,8 @@
 // Turns and explanations of cumulative constraints, by hand.
 
-use super::*;
-use crate::tests::cumulative;
+use crate::cumulative_tests::cumulative;
 use dp_domain::Op;
+use dp_rule_cumulative::*;
 use dp_trials::{LARGEST, clashes, cut_by, gives, leads, state_of, turn_at};
 use std::alloc::Global;
 use std::test::Fail;

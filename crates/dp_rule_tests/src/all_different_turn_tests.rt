@@ -1,8 +1,8 @@
 // Turns and explanations of all-different constraints, by hand.
 
-use super::*;
-use crate::tests::{X, Y, Z, all_different};
+use crate::all_different_tests::{X, Y, Z, all_different};
 use dp_domain::Op;
+use dp_rule_alldiff::*;
 use dp_trials::{clashes, gives, leads, state_of};
 use std::test::Fail;
 

@@ -1,7 +1,7 @@
 // Turns that are computed: rounded quotients, wide domains, conditions of each comparison.
 
-use super::*;
 use dp_domain::Op;
+use dp_rule_linear::*;
 use dp_trials::{state_of, turn_at};
 use std::alloc::Global;
 use std::test::Fail;

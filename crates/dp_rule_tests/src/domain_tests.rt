@@ -1,7 +1,7 @@
 ghost use Rattle.std.specs.Prelude.{◌≡◌, length, IfOk};
 ghost use Rattle.dp_domain.specs.Sets.{IsSmall};
 
-use super::*;
+use dp_domain::*;
 use std::alloc::Global;
 use std::test::Fail;
 

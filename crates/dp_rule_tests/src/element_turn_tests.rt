@@ -1,8 +1,8 @@
 // Turns and explanations of element constraints, by hand.
 
-use super::*;
-use crate::tests::{element, variable};
+use crate::element_tests::{element, variable};
 use dp_domain::Op;
+use dp_rule_element::*;
 use dp_trials::{clashes, gives, leads, state_of};
 use std::test::Fail;
 

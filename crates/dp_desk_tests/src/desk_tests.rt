@@ -1,5 +1,5 @@
-use super::*;
 use dp_base::{Memory, Name, Text};
+use dp_desk::*;
 use std::alloc::{AllocError, Global};
 use std::fs;
 use std::test::Fail;

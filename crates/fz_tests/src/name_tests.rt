@@ -1,4 +1,4 @@
-use super::*;
+use fz_model::*;
 use std::test::*;
 
 // The name, how many arguments it has, and how many at least.

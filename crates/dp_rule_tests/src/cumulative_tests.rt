@@ -1,4 +1,4 @@
-use super::*;
+use dp_rule_cumulative::*;
 use dp_trials::{LARGEST, clash_at, is_counted, state_of};
 use std::alloc::Global;
 use std::test::Fail;

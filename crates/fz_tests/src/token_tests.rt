@@ -1,8 +1,8 @@
 //! Texts with their tokens, a row each: a short name, the text, its tokens, and the refusal after them if there is one.
 
-use super::TokenKind::{Float, Integer, Keyword, Mark, Name, Quoted};
-use super::TokenRefusal::{BadByte, Number, OpenString};
-use super::{Keyword as K, Mark as M, *};
+use fz_token::TokenKind::{Float, Integer, Keyword, Mark, Name, Quoted};
+use fz_token::TokenRefusal::{BadByte, Number, OpenString};
+use fz_token::{Keyword as K, Mark as M, *};
 use std::process::Abort;
 
 /// A kind, and the places of the first byte and of the byte after the last.

@@ -1,6 +1,6 @@
 //! Texts, each with its answer: the name of the refusal and its place, or that the text is a model.
 
-use super::*;
+use fz_items::*;
 use fz_model::{Basic, Constraint, Expr, Item, ModelGoal, VarType};
 use std::alloc::Global;
 use std::process::Abort;

@@ -1,7 +1,7 @@
 // Turns and explanations of linear constraints, by hand.
 
-use super::*;
 use dp_domain::{Dom, Op};
+use dp_rule_linear::*;
 use dp_trials::{clashes, gives, leads};
 use std::alloc::Global;
 use std::test::Fail;

@@ -1,8 +1,8 @@
 // Turns of all-different constraints by tight intervals, by hand.
 
-use super::*;
-use crate::tests::{X, Y, Z, all_different};
+use crate::all_different_tests::{X, Y, Z, all_different};
 use dp_domain::Op;
+use dp_rule_alldiff::*;
 use dp_trials::{LARGEST, cut_by, state_of, turn_at};
 use std::alloc::Global;
 use std::test::Fail;
