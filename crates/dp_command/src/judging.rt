@@ -13,9 +13,6 @@ use dp_desk::{Desk, In};
 use dp_lines::LineJudge;
 use std::alloc::Global;
 
-#[cfg(test)]
-mod tests;
-
 /// Opens an input and judges it piece by piece: to its end, up to a number of bytes, or up to its first refused line,
 /// behind which nothing more is read.
 pub(crate) fn judge_read<D: Desk, J: LineJudge + Drop>(

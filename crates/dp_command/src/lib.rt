@@ -31,8 +31,3 @@ const WRITE_FAULT: u8 = 6;
 
 // The status where an allocation was refused.
 const OUT_OF_MEMORY: u8 = 7;
-
-#[cfg(test)]
-mod fault_tests;
-#[cfg(test)]
-mod tests;

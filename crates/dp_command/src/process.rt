@@ -34,9 +34,6 @@ use dp_process::ProcessRefusal;
 use dp_scaffold::{Scaffold, ScaffoldAnswer, ScaffoldReading};
 use std::alloc::Global;
 
-#[cfg(test)]
-mod tests;
-
 /// Processes a scaffold of a model, and writes nothing. The scaffold is opened where the model is not refused.
 pub(crate) fn process<D: Desk>(
     alloc: Global,

@@ -24,9 +24,6 @@ use fz_model::Model;
 use fz_prove::{Proof, prove_model};
 use std::alloc::Global;
 
-#[cfg(test)]
-mod tests;
-
 /// Proves a model with at most so many nogoods, and writes nothing. The model alone is opened.
 pub(crate) fn prove<D: Desk>(
     alloc: Global,

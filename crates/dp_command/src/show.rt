@@ -20,9 +20,6 @@ use dp_desk::{Desk, In};
 use dp_show::Showing;
 use std::alloc::Global;
 
-#[cfg(test)]
-mod tests;
-
 /// Shows a log while it is read, and writes nothing. The log alone is opened.
 pub(crate) fn show<D: Desk>(alloc: Global, log: &str, desk: &mut D) -> Result<Reply, Trouble>
     ensures due { IfOk result (λ reply. RepliesTo (D.sight desk.old).names (Show log.now) reply) }

@@ -19,9 +19,6 @@ use dp_solver::SolveFault;
 use fz_solve::solve_model;
 use std::alloc::Global;
 
-#[cfg(test)]
-mod tests;
-
 /// Reads a model that is to be solved with at most so many nogoods, and writes nothing. The model alone is opened.
 pub(crate) fn solve<D: Desk>(
     alloc: Global,

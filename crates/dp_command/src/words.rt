@@ -4,9 +4,6 @@ ghost use Rattle.std.specs.Prelude.{ℕ, map, MatchOption};
 ghost use Rattle.dp_command.specs.Asked.{asked};
 ghost use Rattle.dp_command.specs.Words.{AreNoCommand, AreNoOther, AreOptions, IsCount, Spells};
 
-#[cfg(test)]
-mod tests;
-
 // The most nogoods that a solve or a proof learns, where no option says another number.
 const USUAL_CONFLICTS: u64 = 1_000_000;
 

@@ -1,4 +1,4 @@
-use crate::tests::{STEPS, answered};
+use crate::runs::{STEPS, answered};
 use std::alloc::{AllocError, Global};
 use std::test::Fail;
 

@@ -1,4 +1,4 @@
-use crate::tests::{MODEL, STEPS, answered, left_by};
+use crate::runs::{MODEL, STEPS, answered, left_by};
 use std::test::Fail;
 
 // The first whole line is refused; twenty blank lines follow behind another.

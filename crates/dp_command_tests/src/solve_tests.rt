@@ -1,4 +1,4 @@
-use crate::tests::{DIFFERENT, Left, MINIMUM, MODEL, answered, front, left_by};
+use crate::runs::{DIFFERENT, Left, MINIMUM, MODEL, answered, front, left_by};
 use std::alloc::{AllocError, Global};
 use std::test::Fail;
 

@@ -1,8 +1,8 @@
 // Over a desk that never fails; each front of a log; the largest numbers.
 
-use crate::run;
-use crate::tests::{MODEL, STEPS, answered, front};
+use crate::runs::{MODEL, STEPS, answered, front};
 use dp_base::{Memory, Name, Text};
+use dp_command::run;
 use dp_desk::{HonestDesk, Out};
 use std::alloc::{AllocError, Global};
 use std::test::Fail;

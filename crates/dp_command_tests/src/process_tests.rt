@@ -1,7 +1,4 @@
-use crate::outcome::Outcome;
-use crate::tests::{DIFFERENT, Left, MINIMUM, MODEL, STEPS, front, left_by};
-use dp_base::Text;
-use dp_scaffold::{GatherWhy, ScaffoldRefusal};
+use crate::runs::{DIFFERENT, Left, MINIMUM, MODEL, STEPS, front, left_by};
 use std::alloc::{AllocError, Global};
 use std::test::Fail;
 
@@ -144,22 +141,23 @@ fn claims_of_each_kind_are_justified(rt: HostRuntime) -> Result<(), Fail> {
     Ok(())
 }
 
+const BOUNDS: [(&str, &str, &str); 2] = [
+    (
+        "a 1 [obj >= 7]\nc 1\n",
+        "a 1 [obj >= 7]\ni 1 -1 0 c:1 l:linear\nn 2 -1 0 1\nc 1\n",
+        "processed: 0 of 0 nogoods kept, 2 steps\n",
+    ),
+    (
+        "a 1 [obj >= 0]\nc 1\n",
+        "a 1 [obj >= 0]\nn 1 -1\nc 1\n",
+        "processed: 0 of 0 nogoods kept, 1 steps\n",
+    ),
+];
+
 #[test]
 fn bounds_are_justified(rt: HostRuntime) -> Result<(), Fail> {
     let alloc = rt.alloc();
-    let rows = [
-        (
-            "a 1 [obj >= 7]\nc 1\n",
-            "a 1 [obj >= 7]\ni 1 -1 0 c:1 l:linear\nn 2 -1 0 1\nc 1\n",
-            "processed: 0 of 0 nogoods kept, 2 steps\n",
-        ),
-        (
-            "a 1 [obj >= 0]\nc 1\n",
-            "a 1 [obj >= 0]\nn 1 -1\nc 1\n",
-            "processed: 0 of 0 nogoods kept, 1 steps\n",
-        ),
-    ];
-    for (scaffold, log, answer) in rows {
+    for (scaffold, log, answer) in BOUNDS {
         assert!(rt;
             becomes(alloc, MINIMUM, scaffold, log, answer)?,
             "{scaffold}"
@@ -168,67 +166,69 @@ fn bounds_are_justified(rt: HostRuntime) -> Result<(), Fail> {
     Ok(())
 }
 
+const OPEN_NOGOODS: [(&str, &str, &str, &str); 4] = [
+    (
+        "a nogood",
+        OPEN,
+        LEARNED,
+        "refused: NotFollowing 2 at line 4\n2: not ([p >= 1])\n",
+    ),
+    (
+        "the last that fails",
+        FREE,
+        "a 1 [p >= 1]\nn 1 1\nn 2 -1\nc UNSAT\n",
+        "refused: NotFollowing 2 at line 3\n2: not ([p <= 0])\n",
+    ),
+    (
+        "the conclusion",
+        DIFFERENT,
+        "c UNSAT\n",
+        "refused: NotFollowing 0 at line 1\nconclusion: UNSAT\n",
+    ),
+    (
+        "a bound",
+        MINIMUM,
+        "a 1 [obj >= 8]\nc 1\n",
+        "refused: NotFollowing 0 at line 2\nconclusion: [obj >= 8]\n",
+    ),
+];
+
 #[test]
 fn what_does_not_follow_is_told(rt: HostRuntime) -> Result<(), Fail> {
     let alloc = rt.alloc();
-    let rows = [
-        (
-            "a nogood",
-            OPEN,
-            LEARNED,
-            "refused: NotFollowing 2 at line 4\n2: not ([p >= 1])\n",
-        ),
-        (
-            "the last that fails",
-            FREE,
-            "a 1 [p >= 1]\nn 1 1\nn 2 -1\nc UNSAT\n",
-            "refused: NotFollowing 2 at line 3\n2: not ([p <= 0])\n",
-        ),
-        (
-            "the conclusion",
-            DIFFERENT,
-            "c UNSAT\n",
-            "refused: NotFollowing 0 at line 1\nconclusion: UNSAT\n",
-        ),
-        (
-            "a bound",
-            MINIMUM,
-            "a 1 [obj >= 8]\nc 1\n",
-            "refused: NotFollowing 0 at line 2\nconclusion: [obj >= 8]\n",
-        ),
-    ];
-    for (name, model, scaffold, answer) in rows {
+    for (name, model, scaffold, answer) in OPEN_NOGOODS {
         assert!(rt; refuses(alloc, model, scaffold, answer)?, "{name}");
     }
     Ok(())
 }
 
+const REFUSALS: [(&str, &str); 11] = [
+    ("c UNSAT\nc  UNSAT", "AfterConclusion at line 2\nc UNSAT\n"),
+    (
+        "a 1 [absent>=1]\n",
+        "UnknownVar at line 1\na 1 [absent >= 1]\n",
+    ),
+    (
+        "a 1 [obj >= 7]\na 01 [obj >= 8]\n",
+        "AtomTwice at line 2\na 1 [obj >= 8]\n",
+    ),
+    ("n 1 5\n", "UnknownAtom 5 at line 1\nn 1 5\n"),
+    ("n 1 -5 4\n", "UnknownAtom -5 at line 1\nn 1 -5 4\n"),
+    (
+        "a 1 [obj >= 7]\nn 1 1\ni 1 1 0\n",
+        "StepTwice at line 3\ni 1 1 0\n",
+    ),
+    ("a 1 [obj >= 7]\nc -1\n", "WrongBound at line 2\nc -1\n"),
+    ("a 1 [obj >= 7]\n", "NoConclusion at line 2\n"),
+    ("", "NoConclusion at line 1\n"),
+    ("a 1 [obj >= 7]\nn 2 1x\n", "Form at line 2 byte 5\n"),
+    ("d 1\nc UNSAT\n", "NotBuilt at line 1\n"),
+];
+
 #[test]
 fn each_test_of_a_scaffold_has_its_name(rt: HostRuntime) -> Result<(), Fail> {
     let alloc = rt.alloc();
-    let rows = [
-        ("c UNSAT\nc  UNSAT", "AfterConclusion at line 2\nc UNSAT\n"),
-        (
-            "a 1 [absent>=1]\n",
-            "UnknownVar at line 1\na 1 [absent >= 1]\n",
-        ),
-        (
-            "a 1 [obj >= 7]\na 01 [obj >= 8]\n",
-            "AtomTwice at line 2\na 1 [obj >= 8]\n",
-        ),
-        ("n 1 5\n", "UnknownAtom 5 at line 1\nn 1 5\n"),
-        ("n 1 -5 4\n", "UnknownAtom -5 at line 1\nn 1 -5 4\n"),
-        (
-            "a 1 [obj >= 7]\nn 1 1\ni 1 1 0\n",
-            "StepTwice at line 3\ni 1 1 0\n",
-        ),
-        ("a 1 [obj >= 7]\nc -1\n", "WrongBound at line 2\nc -1\n"),
-        ("a 1 [obj >= 7]\n", "NoConclusion at line 2\n"),
-        ("", "NoConclusion at line 1\n"),
-        ("a 1 [obj >= 7]\nn 2 1x\n", "Form at line 2 byte 5\n"),
-        ("d 1\nc UNSAT\n", "NotBuilt at line 1\n"),
-    ];
-    for (scaffold, refusal) in rows {
+    for (scaffold, refusal) in REFUSALS {
         let answer = format!(in alloc; "refused: {refusal}")?;
         assert!(rt;
             refuses(alloc, MINIMUM, scaffold, answer.as_str())?,
@@ -237,24 +237,6 @@ fn each_test_of_a_scaffold_has_its_name(rt: HostRuntime) -> Result<(), Fail> {
     }
     let answer = "refused: NoGoal at line 2\nc 1\n";
     assert!(rt; refuses(alloc, FREE, "a 1 [p >= 1]\nc 1\n", answer)?);
-    Ok(())
-}
-
-#[test]
-fn too_many_nogoods_are_told(rt: HostRuntime) -> Result<(), Fail> {
-    let alloc = rt.alloc();
-    let refusal = ScaffoldRefusal {
-        line: 1_000_001,
-        why: GatherWhy::TooMany,
-    };
-    let line = Text::new(b"n 1000001 1\n".to_vec(alloc)?);
-    let outcome = Outcome::Refused(refusal, Some(line));
-    let text = outcome.text(alloc)?;
-    assert_eq!(rt; outcome.status(), 1);
-    assert_eq!(rt;
-        text.as_slice(),
-        b"refused: TooMany at line 1000001\nn 1000001 1\n".as_slice()
-    );
     Ok(())
 }
 

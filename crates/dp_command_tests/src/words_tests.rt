@@ -1,5 +1,5 @@
-use crate::tests::{MODEL, desk_of};
-use crate::{Command, read_words, run};
+use crate::runs::{MODEL, desk_of};
+use dp_command::{Command, read_words, run};
 use dp_desk::Out;
 use std::test::Fail;
 
