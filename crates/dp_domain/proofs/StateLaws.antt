@@ -1,14 +1,15 @@
 -- Laws of states: cuts, smaller states, entailed atoms, assignments within a state, empty sets.
-use Rattle.std.proofs.Common.{◌≡◌, ℕ, ◌+◌, ◌<◌, ◌≤◌, true, false, ◌⊎◌, List, [], ◌∷◌, length, get_or, set, ℤ, refl, sym, ◌∙◌, ap, subst, inl, inr, arith}
+use Rattle.std.proofs.Common.{◌≡◌, ℕ, ◌+◌, ◌<◌, ◌≤◌, true, false, cond, nat_lt, zero-add, ◌⊎◌, List, [], ◌∷◌, length, get_or, set, ℤ, refl, sym, ◌∙◌, ap, subst, inl, inr, arith}
 use Rattle.std.specs.List.{filter}
 use Rattle.std.proofs.lemmas.Bool.{false≢true, both_ways, cases_Bool, cases_eq, cases_lt, not_from_true, true_from_ne_false, false_from_ne_true}
+use Rattle.std.proofs.lemmas.Bool.Decides.{nat_tests}
 use Rattle.std.proofs.lemmas.List.{length-set, get_or-set_same, get_or-set_other, set-get_or, set-set, set_comm, set_past, get_or_past, get_or_default, same_lists}
-use Rattle.std.proofs.lemmas.List.Sums.{sum_by-set}
+use Rattle.std.proofs.lemmas.List.Sums.{sum_by-cons, sum_by-set}
 use Rattle.dp_base.specs.Lists.{Among, Each}
 use Rattle.dp_base.proofs.Lists.{Each-set, length-filter_cases, Among-get_or, Contains-from_among, Among-filter_only, Among-filter_all, Each-among, list_all-at, list_all-from, list_all-fails, list_all-not, list_any-some, list_any-at, list_any-none, filter-whole, filter-filter}
 use Rattle.dp_domain.specs.Atoms.{Atomic, meets, negated}
 use Rattle.dp_domain.specs.Sets.{IsDomain}
-use Rattle.dp_domain.specs.States.{Domains, values, is_nil, is_dead, entails, entails_all, cut, cut_all, total, LiesIn, IsWithin}
+use Rattle.dp_domain.specs.States.{Domains, values, is_nil, is_dead, nil_count, entails, entails_all, cut, cut_all, total, LiesIn, IsWithin}
 use Rattle.dp_domain.proofs.AtomLaws.{meets-negated, meets-from_not, not-from_meets}
 use Rattle.dp_domain.proofs.SetLaws.{IsDomain-filter, ascending-same}
 
@@ -336,3 +337,17 @@ IsDomain-values d x e = elim (cases_lt x (length d)) [
 -- a cut of a state of domains is one of domains
 pub IsDomain-cut : (d : Domains) (a : Atomic) → Each IsDomain d → Each IsDomain (cut d a)
 IsDomain-cut d a e = Each-set IsDomain d a.var (filter (meets a) (values d a.var)) e (IsDomain-filter (meets a) (values d a.var) (IsDomain-values d a.var e))
+
+-- ---- how many variables have no value left
+
+more_than_none : (n : ℕ) → nat_lt 0 (1 + n) ≡ true
+more_than_none n = grind (arith, nat_tests)
+
+nil_count-cons : (s : List ℤ) (d : Domains) → nil_count (s ∷ d) ≡ cond (is_nil s) 1 0 + nil_count d
+nil_count-cons s d = sum_by-cons (λ (t : List ℤ). cond (is_nil t) 1 0) s d
+
+-- whether there is one, by their number
+pub dead-counted : (d : Domains) → is_dead d ≡ nat_lt 0 (nil_count d)
+dead-counted [] = refl
+dead-counted ([] ∷ d) = sym (more_than_none (nil_count d)) ∙ ap (λ n. nat_lt 0 n) (sym (nil_count-cons [] d))
+dead-counted ((v ∷ vs) ∷ d) = dead-counted d ∙ ap (λ n. nat_lt 0 n) (sym (nil_count-cons (v ∷ vs) d ∙ zero-add (nil_count d)))

@@ -1,7 +1,7 @@
 -- States: what each variable may still be.
 use Rattle.std.specs.Prelude.{◌≡◌, ℕ, ◌<◌, Bool, true, false, not, ◌&&◌, ◌==◌, List, [], ◌∷◌, length, get_or, slice_set, ℤ}
 use Rattle.std.specs.Prelude.{filter}
-use Rattle.std.specs.List.{list_any, list_all, sum_by}
+use Rattle.std.specs.List.{count_by, list_any, list_all, sum_by}
 use Rattle.dp_base.specs.Lists.{Among, Each}
 use Rattle.dp_domain.specs.Atoms.{Atomic, meets}
 
@@ -21,6 +21,10 @@ is_nil (x ∷ xs) = false
 -- whether some variable has no value left
 abbrev pub is_dead : Domains → Bool
 is_dead d = list_any is_nil d
+
+-- how many variables have no value left
+abbrev pub nil_count : Domains → ℕ
+nil_count d = count_by is_nil d
 
 -- whether each value of the atom's variable meets the atom
 abbrev pub entails : Domains → Atomic → Bool

@@ -1,9 +1,9 @@
 // States: what each variable may still be.
 
-ghost use Rattle.std.specs.Prelude.{◌≡◌, ℕ, ◌^◌, ◌<◌, ◌↔◌, false, not, length, slice_set, IfOk, OnOk, OnErr, IsTrue};
+ghost use Rattle.std.specs.Prelude.{◌≡◌, ℕ, ◌+◌, ◌^◌, ◌<◌, ◌≤◌, ◌↔◌, false, not, cond, length, slice_set, IfOk, OnOk, OnErr, IsTrue};
 ghost use Rattle.dp_base.specs.Lists.{Among};
 ghost use Rattle.dp_domain.specs.Sets.{IsDomain, greatest, least};
-ghost use Rattle.dp_domain.specs.States.{cut, entails, is_dead, refuted, values, IsWithin};
+ghost use Rattle.dp_domain.specs.States.{cut, entails, is_dead, nil_count, refuted, values, IsWithin};
 ghost use Rattle.dp_domain.specs.Explanations.{Describes, description};
 ghost use Rattle.dp_domain.specs.Faces.{Covers};
 
@@ -13,20 +13,23 @@ use std::alloc::Global;
 use std::marker::Model;
 use std::mem;
 
-/// A set of values for each variable, seen as the list of these sets.
+/// A set of values for each variable, seen as the list of these sets. How many of them are empty is
+/// counted, so that whether one is takes no search.
 #[derive(Debug, Drop)]
 pub struct State {
     sets: Vec<Dom>,
+    empty: usize,
 }
 
 impl Model for State {
-    ghost use Rattle.std.specs.Prelude.{List, ℤ, ◌<◌, ◌^◌, length};
+    ghost use Rattle.std.specs.Prelude.{◌≡◌, List, ℤ, ◌<◌, ◌^◌, length};
+    ghost use Rattle.dp_domain.specs.States.{nil_count};
 
     ghost Value = { List (List ℤ) };
 
     ghost view = { λ s. s.sets.items };
 
-    ghost invariant = { λ s. length s.sets.items < 2 ^ 32 };
+    ghost invariant = { λ s. (length s.sets.items < 2 ^ 32) × (s.empty ≡ nil_count s.sets.items) };
 }
 
 impl State {
@@ -35,7 +38,8 @@ impl State {
         requires { length sets.items < 2 ^ 32 }
         ensures { result ≡ sets.items }
     {
-        State { sets }
+        let empty = count_empty(&sets);
+        State { sets, empty }
     }
 
     /// The number of variables.
@@ -59,6 +63,7 @@ impl State {
     {
         Ok(State {
             sets: copies(&self.sets)?,
+            empty: self.empty,
         })
     }
 
@@ -66,7 +71,7 @@ impl State {
     pub fn dead(&self) -> bool
         ensures { result ≡ is_dead self.now }
     {
-        self.sets.iter().any(|set| set.is_empty())
+        self.empty > 0
     }
 
     /// Whether each value of the atom's variable meets the atom.
@@ -112,7 +117,10 @@ impl State {
         ensures err { OnErr result (self.new ≡ self.old) }
     {
         let set = &mut self.sets[atom.var().0 as usize];
-        set.exclude(atom)
+        let before = set.is_empty();
+        let changed = set.exclude(atom)?;
+        self.empty = recounted(self.empty, before, set.is_empty());
+        Ok(changed)
     }
 
     /// Takes out the values of the variable that meet each of the atoms on it. Want of memory leaves
@@ -123,7 +131,10 @@ impl State {
         ensures err { OnErr result (self.new ≡ self.old) }
     {
         let set = &mut self.sets[var.0 as usize];
-        set.refute(var, atoms)
+        let before = set.is_empty();
+        set.refute(var, atoms)?;
+        self.empty = recounted(self.empty, before, set.is_empty());
+        Ok(())
     }
 
     /// Puts another set in the place of the variable's, and hands over that one.
@@ -132,7 +143,10 @@ impl State {
         ensures state { self.new ≡ slice_set self.old var set }
         ensures set { result ≡ values self.old var }
     {
-        mem::replace(&mut self.sets[var.0 as usize], set)
+        let now = set.is_empty();
+        let before = mem::replace(&mut self.sets[var.0 as usize], set);
+        self.empty = recounted(self.empty, before.is_empty(), now);
+        before
     }
 
     /// What the state says of the variables beyond the initial state: for each in order, its lower bound
@@ -170,4 +184,20 @@ fn copies(sets: &Vec<Dom>) -> Result<Vec<Dom>, Memory>
         copies.push(set.copy()?)?;
     }
     Ok(copies)
+}
+
+/// How many of the sets are empty.
+fn count_empty(sets: &Vec<Dom>) -> usize
+    ensures { result ≡ nil_count sets.now.items }
+{
+    sets.iter().filter(|set| set.is_empty()).count()
+}
+
+/// The count of empty sets after a change of one that was empty before or not, and is now or not.
+fn recounted(count: usize, before: bool, now: bool) -> usize
+    requires counted { cond before 1 0 ≤ count }
+    requires room { count < 2 ^ 32 + 1 }
+    ensures { result + cond before 1 0 ≡ count + cond now 1 0 }
+{
+    count - usize::from(before) + usize::from(now)
 }
