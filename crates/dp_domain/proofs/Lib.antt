@@ -23,3 +23,4 @@ pub mod OutsideLaws
 pub mod SupportLaws
 pub mod WorkingLaws
 pub mod BisectSteps
+pub mod ScratchLaws

@@ -8,3 +8,4 @@ pub mod Turns
 pub mod Explanations
 pub mod Supports
 pub mod Terms
+pub mod Scratches

@@ -146,8 +146,16 @@ impl Dom {
         if self.entails(atom) {
             return Ok(false);
         }
-        self.intervals = met(*self.intervals.allocator(), self.intervals.as_slice(), atom)?;
+        *self = self.meeting(atom)?;
         Ok(true)
+    }
+
+    /// Its numbers that meet the atom.
+    pub(crate) fn meeting(&self, atom: Atom) -> Result<Dom, Memory>
+        ensures { IfOk result (λ d. d ≡ filter (meets atom) self.now) }
+    {
+        let intervals = met(*self.intervals.allocator(), self.intervals.as_slice(), atom)?;
+        Ok(Dom { intervals })
     }
 
     /// Takes out the numbers that, as the variable's value, meet each of the atoms on it. Want of memory
@@ -156,14 +164,22 @@ impl Dom {
         ensures kept { OnOk result (self.new ≡ filter (fails_one var atoms.now) self.old) }
         ensures err { OnErr result (self.new ≡ self.old) }
     {
+        *self = self.failing_one(var, atoms)?;
+        Ok(())
+    }
+
+    /// Its numbers that, as the variable's value, fail one of the atoms on it.
+    pub(crate) fn failing_one(&self, var: VarId, atoms: &[Atom]) -> Result<Dom, Memory>
+        ensures { IfOk result (λ d. d ≡ filter (fails_one var atoms.now) self.now) }
+    {
         let kept = failing(
             *self.intervals.allocator(),
             self.intervals.as_slice(),
             var,
             atoms,
         )?;
-        self.intervals = merged(kept)?;
-        Ok(())
+        let intervals = merged(kept)?;
+        Ok(Dom { intervals })
     }
 
     /// The numbers of the other set strictly between this set's bounds that this set lacks.
