@@ -1,5 +1,5 @@
 -- What is known speaks of the problem's variables alone, and holds of it: line by line.
-use Rattle.std.proofs.Common.{◌≡◌, ℕ, ◌<◌, Bool, true, false, Option, Some, None, List, [], ◌∷◌, length, map, ℤ, pos, negsuc, ◌+◌, cond}
+use Rattle.std.proofs.Common.{◌≡◌, ℕ, ◌<◌, Bool, true, false, Option, Some, None, List, [], ◌∷◌, length, map, ℤ, pos, negsuc, ◌+◌, cond, sym, subst}
 use Rattle.std.specs.Prelude.{IfSome}
 use Rattle.std.specs.Option.{option_map}
 use Rattle.std.specs.Map.{lookup}
@@ -8,6 +8,7 @@ use Rattle.dp_base.specs.Lists.{Each}
 use Rattle.dp_base.specs.Names.{named}
 use Rattle.dp_base.proofs.Lists.{Each-append}
 use Rattle.dp_domain.specs.Atoms.{Atomic, negated}
+use Rattle.dp_domain.specs.States.{Domains}
 use Rattle.dp_domain.specs.declared.atom.Op.{Op}
 use Rattle.dp_lines.specs.declared.line.Line.{Line}
 use Rattle.dp_lines.specs.declared.line.Line.TheVariants.{Atom, Inference, Nogood, Delete, Conclude}
@@ -34,6 +35,10 @@ cons_below n (Some a) atoms h e = (h, e)
 pub literals_below : (n : ℕ) (atoms : List (ℕ × Atomic)) → Each (λ entry. entry.1.var < n) atoms → (ls : List ℤ) → AreBelow n (literal_atoms atoms ls)
 literals_below n atoms kept [] = tt
 literals_below n atoms kept (l ∷ ls) = cons_below n (literal_atom atoms l) (literal_atoms atoms ls) (literal_below n atoms kept l) (literals_below n atoms kept ls)
+
+-- atoms on the variables of the initial state are on those of a state that is the same
+pub below_base : (base initial : Domains) (atoms : List Atomic) → base ≡ initial → AreBelow (length initial) atoms → AreBelow (length base) atoms
+below_base base initial atoms same below = subst (λ (d : Domains). AreBelow (length d) atoms) (sym same) below
 
 map_negated_below : (n : ℕ) (atoms : List Atomic) → AreBelow n atoms → AreBelow n (map negated atoms)
 map_negated_below n [] e = tt

@@ -1,11 +1,12 @@
 -- What the checker keeps true of what is known.
-use Rattle.std.specs.Prelude.{ℕ, ◌<◌, List, length, ℤ, IfSome}
+use Rattle.std.specs.Prelude.{◌≡◌, ℕ, ◌<◌, List, length, ℤ, IfSome}
 use Rattle.dp_base.specs.Lists.{Each}
 use Rattle.dp_domain.specs.Atoms.{Atomic}
+use Rattle.dp_domain.specs.States.{Domains}
 use Rattle.dp_domain.specs.declared.verdict.Verdict.{Verdict}
 use Rattle.dp_domain.specs.declared.verdict.Verdict.TheVariants.{Unsat, Bound}
 use Rattle.dp_parts.specs.Posed.{Posed, Solves}
-use Rattle.dp_parts.specs.Problems.{Csp, IsSolution, posed}
+use Rattle.dp_parts.specs.Problems.{Csp, IsProblem, IsSolution, posed}
 use Rattle.dp_checker.specs.Known.{Known}
 use Rattle.dp_checker.specs.Soundness.{HoldsOf, Meets}
 
@@ -31,6 +32,12 @@ pub record IsKept (p : Csp) (known : Known) : Type 0 where
   pub atoms : Each (λ entry. entry.1.var < length p.initial) known.atoms
   pub steps : Each (λ entry. AreBelow (length p.initial) entry.1) known.steps
   pub backed : IsBacked (posed p) known
+
+-- what is known is kept of a problem, to whose initial state the working state goes back
+pub record IsReady (p : Csp) (known : Known) (start : Domains) : Type 0 where
+  pub problem : IsProblem p
+  pub kept : IsKept p known
+  pub base : start ≡ p.initial
 
 -- a conclusion is right: the problem has no solution, or none that fails the bound
 abbrev pub IsRight : Csp → Verdict → Type 0

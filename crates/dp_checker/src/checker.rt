@@ -4,7 +4,7 @@ ghost use Rattle.std.specs.Prelude.{◌≡◌, ◌^◌, ◌≤◌, ◌+◌, None
 ghost use Rattle.dp_base.specs.Names.{is_name};
 ghost use Rattle.dp_domain.specs.Atoms.{IsNameable};
 ghost use Rattle.dp_lines.specs.Allowed.{IsAllowed};
-ghost use Rattle.dp_parts.specs.Problems.{IsProblem, posed};
+ghost use Rattle.dp_parts.specs.Problems.{posed};
 ghost use Rattle.dp_checker.specs.Answers.{IfMemory, IfRefused, Tells, UnlessMemory, known_of};
 ghost use Rattle.dp_checker.specs.Judged.{after, atom_refusal, first_refusal, judge, line_refusal, verdict, verdict_of};
 ghost use Rattle.dp_checker.specs.Kept.{IsKept, IsRight};
@@ -17,7 +17,7 @@ use crate::fault::{CheckFault, Fault};
 use crate::inference::judge_inference;
 use crate::nogood::judge_nogood;
 use crate::{StepRefusal, Why};
-use dp_domain::{Atom, Memory, Name, Op, Verdict};
+use dp_domain::{Atom, Memory, Name, Op, Scratch, Verdict};
 use dp_lines::Line;
 use dp_parts::Problem;
 use indexmap::IndexMap;
@@ -29,18 +29,19 @@ use std::marker::Model;
 pub struct Checker<'p> {
     problem: &'p Problem,
     facts: Facts,
+    scratch: Scratch,
     refusal: Option<StepRefusal>,
 }
 
 impl<'p> Model for Checker<'p> {
     ghost use Rattle.dp_checker.specs.Answers.{Checking, known_of, progress_of};
-    ghost use Rattle.dp_checker.specs.Kept.{IsKept};
+    ghost use Rattle.dp_checker.specs.Kept.{IsReady};
 
     ghost Value = { Checking };
 
     ghost view = { λ c. record { problem = c.problem.now; progress = progress_of c.refusal (known_of c.facts) } };
 
-    ghost invariant = { λ c. IsKept c.problem.now (known_of c.facts) };
+    ghost invariant = { λ c. IsReady c.problem.now (known_of c.facts) c.scratch.base };
 }
 
 impl<'p> Checker<'p> {
@@ -54,9 +55,11 @@ impl<'p> Checker<'p> {
             steps: IndexMap::new(alloc),
             conclusion: None,
         };
+        let scratch = Scratch::new(problem.initial().copy()?);
         Ok(Checker {
             problem,
             facts,
+            scratch,
             refusal: None,
         })
     }
@@ -73,7 +76,7 @@ impl<'p> Checker<'p> {
         if let Some(refusal) = self.refusal {
             return Err(CheckFault::Refused(refusal));
         }
-        match learn(self.problem, &mut self.facts, line) {
+        match learn(self.problem, &mut self.facts, &mut self.scratch, line) {
             Ok(()) => Ok(()),
             Err(Fault::Memory) => Err(CheckFault::Memory),
             Err(Fault::Refused(why)) => {
@@ -113,27 +116,39 @@ fn verdict_of(conclusion: &Option<Verdict>, lines: u64) -> Result<Verdict, StepR
 }
 
 /// Adds what the line makes known, unless a test refuses it.
-fn learn(problem: &Problem, facts: &mut Facts, line: &Line) -> Result<(), Fault>
+fn learn(
+    problem: &Problem,
+    facts: &mut Facts,
+    scratch: &mut Scratch,
+    line: &Line,
+) -> Result<(), Fault>
     requires kept { IsKept problem.now (known_of facts.old) }
+    requires base { scratch.old.base ≡ problem.now.initial }
     requires allowed { IsAllowed line.now }
     ensures accepted { OnOk result (first_refusal (posed problem.now) (known_of facts.old) line.now ≡ None) }
     ensures known { OnOk result (known_of facts.new ≡ after (posed problem.now) (known_of facts.old) line.now) }
-    ensures problem { OnOk result (IsProblem problem.now) }
+    ensures base { scratch.new.base ≡ scratch.old.base }
     ensures refused { IfRefused result (λ why. first_refusal (posed problem.now) (known_of facts.old) line.now ≡ Some why) }
     ensures unchanged { OnErr result (known_of facts.new ≡ known_of facts.old) }
 {
     if facts.conclusion.is_some() {
         return Err(Fault::Refused(Why::AfterConclusion));
     }
-    learn_line(problem, facts, line)
+    learn_line(problem, facts, scratch, line)
 }
 
-fn learn_line(problem: &Problem, facts: &mut Facts, line: &Line) -> Result<(), Fault>
+fn learn_line(
+    problem: &Problem,
+    facts: &mut Facts,
+    scratch: &mut Scratch,
+    line: &Line,
+) -> Result<(), Fault>
     requires kept { IsKept problem.now (known_of facts.old) }
+    requires base { scratch.old.base ≡ problem.now.initial }
     requires allowed { IsAllowed line.now }
     ensures accepted { OnOk result (line_refusal (posed problem.now) (known_of facts.old) line.now ≡ None) }
     ensures known { OnOk result (known_of facts.new ≡ after (posed problem.now) (known_of facts.old) line.now) }
-    ensures problem { OnOk result (IsProblem problem.now) }
+    ensures base { scratch.new.base ≡ scratch.old.base }
     ensures refused { IfRefused result (λ why. line_refusal (posed problem.now) (known_of facts.old) line.now ≡ Some why) }
     ensures unchanged { OnErr result (known_of facts.new ≡ known_of facts.old) }
 {
@@ -158,6 +173,7 @@ fn learn_line(problem: &Problem, facts: &mut Facts, line: &Line) -> Result<(), F
             let denial = judge_inference(
                 problem,
                 facts,
+                scratch,
                 *id,
                 premises.as_slice(),
                 *consequent,
@@ -168,13 +184,13 @@ fn learn_line(problem: &Problem, facts: &mut Facts, line: &Line) -> Result<(), F
             Ok(())
         }
         Line::Nogood { id, atoms, hints } => {
-            let denial = judge_nogood(problem, facts, *id, atoms.as_slice(), hints.as_slice())?;
+            let denial = judge_nogood(problem, facts, scratch, *id, atoms.as_slice(), hints.as_slice())?;
             add_step(&mut facts.steps, *id, denial)?;
             Ok(())
         }
         Line::Delete { id: _ } => unreachable!(),
         Line::Conclude(claim) => {
-            let verdict = judge_claim(problem, facts, *claim)?;
+            let verdict = judge_claim(problem, facts, scratch, *claim)?;
             facts.conclusion = Some(verdict);
             Ok(())
         }
@@ -193,7 +209,6 @@ fn judge_atom(
     requires { IsNameable op value }
     ensures accepted { OnOk result (atom_refusal (posed problem.now) (known_of facts.now) id name.now ≡ None) }
     ensures atom { IfOk result (λ atom. (atom ≡ record { var = atom.var; op = op; value = value }) × (named problem.now.names name.now ≡ Some atom.var)) }
-    ensures problem { OnOk result (IsProblem problem.now) }
     ensures refused { IfRefused result (λ why. atom_refusal (posed problem.now) (known_of facts.now) id name.now ≡ Some why) }
 {
     let Some(var) = problem.variable(name) else {

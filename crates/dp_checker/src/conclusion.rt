@@ -2,7 +2,7 @@
 
 ghost use Rattle.std.specs.Prelude.{◌≡◌, None, Some, length, IfOk, OnOk};
 ghost use Rattle.dp_base.specs.Lists.{Each};
-ghost use Rattle.dp_parts.specs.Problems.{IsProblem, posed};
+ghost use Rattle.dp_parts.specs.Problems.{posed};
 ghost use Rattle.dp_checker.specs.Answers.{IfRefused, known_of};
 ghost use Rattle.dp_checker.specs.Judged.{concluded, conclusion_refusal, has_goal, is_at_least, is_at_most, is_bound};
 ghost use Rattle.dp_checker.specs.Kept.{AreBelow, IsKept};
@@ -14,22 +14,28 @@ use crate::facts::{Denial, Facts};
 use crate::fault::Fault;
 use crate::literals::literal_atom;
 use crate::start::{entails_all, start_beyond};
-use dp_domain::{Atom, Op, State, Verdict};
+use dp_domain::{Atom, Op, Scratch, State, Verdict};
 use dp_lines::Claim;
 use dp_parts::{Goal, Problem};
 use indexmap::IndexMap;
 
 /// What a claim that holds concludes, or the first test that it fails.
-pub fn judge_claim(problem: &Problem, facts: &Facts, claim: Claim) -> Result<Verdict, Fault>
-    requires { IsKept problem.now (known_of facts.now) }
+pub fn judge_claim(
+    problem: &Problem,
+    facts: &Facts,
+    scratch: &mut Scratch,
+    claim: Claim,
+) -> Result<Verdict, Fault>
+    requires kept { IsKept problem.now (known_of facts.now) }
+    requires base { scratch.old.base ≡ problem.now.initial }
+    ensures base { scratch.new.base ≡ scratch.old.base }
     ensures accepted { OnOk result (conclusion_refusal (posed problem.now) (known_of facts.now) claim ≡ None) }
     ensures verdict { IfOk result (λ verdict. concluded (known_of facts.now) claim ≡ Some verdict) }
-    ensures problem { OnOk result (IsProblem problem.now) }
     ensures refused { IfRefused result (λ why. conclusion_refusal (posed problem.now) (known_of facts.now) claim ≡ Some why) }
 {
     match claim {
         Claim::Unsat => judge_unsat(problem, facts),
-        Claim::Bound(literal) => judge_bound(problem, facts, literal),
+        Claim::Bound(literal) => judge_bound(problem, facts, scratch, literal),
     }
 }
 
@@ -37,7 +43,6 @@ fn judge_unsat(problem: &Problem, facts: &Facts) -> Result<Verdict, Fault>
     requires { IsKept problem.now (known_of facts.now) }
     ensures accepted { OnOk result (conclusion_refusal (posed problem.now) (known_of facts.now) Unsat ≡ None) }
     ensures verdict { IfOk result (λ verdict. concluded (known_of facts.now) Unsat ≡ Some verdict) }
-    ensures problem { OnOk result (IsProblem problem.now) }
     ensures refused { IfRefused result (λ why. conclusion_refusal (posed problem.now) (known_of facts.now) Unsat ≡ Some why) }
 {
     if !concludes(problem.initial(), &facts.steps) {
@@ -46,11 +51,17 @@ fn judge_unsat(problem: &Problem, facts: &Facts) -> Result<Verdict, Fault>
     Ok(Verdict::Unsat)
 }
 
-fn judge_bound(problem: &Problem, facts: &Facts, literal: i64) -> Result<Verdict, Fault>
-    requires { IsKept problem.now (known_of facts.now) }
+fn judge_bound(
+    problem: &Problem,
+    facts: &Facts,
+    scratch: &mut Scratch,
+    literal: i64,
+) -> Result<Verdict, Fault>
+    requires kept { IsKept problem.now (known_of facts.now) }
+    requires base { scratch.old.base ≡ problem.now.initial }
+    ensures base { scratch.new.base ≡ scratch.old.base }
     ensures accepted { OnOk result (conclusion_refusal (posed problem.now) (known_of facts.now) (Bound literal) ≡ None) }
     ensures verdict { IfOk result (λ verdict. concluded (known_of facts.now) (Bound literal) ≡ Some verdict) }
-    ensures problem { OnOk result (IsProblem problem.now) }
     ensures refused { IfRefused result (λ why. conclusion_refusal (posed problem.now) (known_of facts.now) (Bound literal) ≡ Some why) }
 {
     let Some(atom) = literal_atom(&facts.atoms, literal) else {
@@ -63,8 +74,8 @@ fn judge_bound(problem: &Problem, facts: &Facts, literal: i64) -> Result<Verdict
     if !is_bound(&goal, &atom) {
         return Err(Fault::Refused(Why::WrongBound));
     }
-    let start = start_beyond(problem, &atom)?;
-    if !concludes(&start, &facts.steps) {
+    start_beyond(scratch, &atom)?;
+    if !concludes(scratch.state(), &facts.steps) {
         return Err(Fault::Refused(Why::NotConcluded));
     }
     Ok(Verdict::Bound(atom))

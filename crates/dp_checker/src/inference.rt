@@ -6,7 +6,7 @@ ghost use Rattle.std.specs.Str.{bytes_eq};
 ghost use Rattle.dp_base.specs.Lists.{Each};
 ghost use Rattle.dp_domain.specs.Faces.{Covers};
 ghost use Rattle.dp_parts.specs.Parts.{face_of};
-ghost use Rattle.dp_parts.specs.Problems.{IsProblem, labelled, posed};
+ghost use Rattle.dp_parts.specs.Problems.{labelled, posed};
 ghost use Rattle.dp_checker.specs.Answers.{IfRefused, known_of};
 ghost use Rattle.dp_checker.specs.Judged.{grounds, inference_denial, inference_refusal, initial_domain, is_constraint, is_fitting, parts_of};
 ghost use Rattle.dp_checker.specs.Kept.{IsKept};
@@ -16,24 +16,26 @@ use crate::Why;
 use crate::facts::{Denial, Facts};
 use crate::fault::Fault;
 use crate::literals::{first_undefined_of, inference_denial};
-use crate::start::start_state;
-use dp_domain::{Memory, Name, State, Test};
+use crate::start::start_with;
+use dp_domain::{Memory, Name, Scratch, State, Test};
 use dp_parts::{Part, Problem};
 
 /// The denial of an inference that holds, or the first test that it fails.
 pub fn judge_inference(
     problem: &Problem,
     facts: &Facts,
+    scratch: &mut Scratch,
     id: u64,
     premises: &[i64],
     consequent: Option<i64>,
     constraint: Option<u64>,
     label: &Option<Name>,
 ) -> Result<Denial, Fault>
-    requires { IsKept problem.now (known_of facts.now) }
+    requires kept { IsKept problem.now (known_of facts.now) }
+    requires base { scratch.old.base ≡ problem.now.initial }
+    ensures base { scratch.new.base ≡ scratch.old.base }
     ensures accepted { OnOk result (inference_refusal (posed problem.now) (known_of facts.now) id premises.now consequent constraint label.now ≡ None) }
     ensures denial { IfOk result (λ denial. denial ≡ inference_denial facts.now.atoms.entries premises.now consequent) }
-    ensures problem { OnOk result (IsProblem problem.now) }
     ensures refused { IfRefused result (λ why. inference_refusal (posed problem.now) (known_of facts.now) id premises.now consequent constraint label.now ≡ Some why) }
 {
     if let Some(literal) = first_undefined_of(&facts.atoms, premises, consequent) {
@@ -50,8 +52,8 @@ pub fn judge_inference(
     }
     let alloc = *facts.steps.allocator();
     let denial = inference_denial(alloc, &facts.atoms, premises, consequent)?;
-    let start = start_state(problem, denial.as_slice())?;
-    if !holds(problem, &start, constraint, label)? {
+    start_with(scratch, denial.as_slice())?;
+    if !holds(problem, scratch.state(), constraint, label)? {
         return Err(Fault::Refused(Why::NotImplied));
     }
     Ok(Denial::new(denial))

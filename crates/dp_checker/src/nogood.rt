@@ -5,7 +5,7 @@ ghost use Rattle.std.specs.List.{list_all};
 ghost use Rattle.dp_base.specs.Lists.{Among, Each};
 ghost use Rattle.dp_domain.specs.Atoms.{Atomic};
 ghost use Rattle.dp_domain.specs.States.{entails, entails_all};
-ghost use Rattle.dp_parts.specs.Problems.{IsProblem, posed};
+ghost use Rattle.dp_parts.specs.Problems.{posed};
 ghost use Rattle.dp_checker.specs.Answers.{IfRefused, known_of};
 ghost use Rattle.dp_checker.specs.Judged.{nogood_refusal};
 ghost use Rattle.dp_checker.specs.Kept.{AreBelow, IsKept};
@@ -16,8 +16,8 @@ use crate::Why;
 use crate::facts::{Denial, Facts};
 use crate::fault::Fault;
 use crate::literals::{first_undefined, first_unknown, literal_atoms};
-use crate::start::start_state;
-use dp_domain::{Atom, Memory, State, VarId};
+use crate::start::start_with;
+use dp_domain::{Atom, Memory, Scratch, State, VarId};
 use dp_parts::Problem;
 use indexmap::IndexMap;
 
@@ -25,14 +25,16 @@ use indexmap::IndexMap;
 pub fn judge_nogood(
     problem: &Problem,
     facts: &Facts,
+    scratch: &mut Scratch,
     id: u64,
     atoms: &[i64],
     hints: &[u64],
 ) -> Result<Denial, Fault>
-    requires { IsKept problem.now (known_of facts.now) }
+    requires kept { IsKept problem.now (known_of facts.now) }
+    requires base { scratch.old.base ≡ problem.now.initial }
+    ensures base { scratch.new.base ≡ scratch.old.base }
     ensures accepted { OnOk result (nogood_refusal (posed problem.now) (known_of facts.now) id atoms.now hints.now ≡ None) }
     ensures denial { IfOk result (λ denial. denial ≡ literal_atoms facts.now.atoms.entries atoms.now) }
-    ensures problem { OnOk result (IsProblem problem.now) }
     ensures refused { IfRefused result (λ why. nogood_refusal (posed problem.now) (known_of facts.now) id atoms.now hints.now ≡ Some why) }
 {
     if let Some(literal) = first_undefined(&facts.atoms, atoms) {
@@ -46,45 +48,56 @@ pub fn judge_nogood(
     }
     let alloc = *facts.steps.allocator();
     let denial = literal_atoms(alloc, &facts.atoms, atoms)?;
-    let start = start_state(problem, denial.as_slice())?;
-    if !prove(start, &facts.steps, hints)? {
+    start_with(scratch, denial.as_slice())?;
+    if !prove(scratch, &facts.steps, hints)? {
         return Err(Fault::Refused(Why::NoClash));
     }
     Ok(Denial::new(denial))
 }
 
 /// Whether the hints prove that nothing in the start state is left.
-fn prove(start: State, steps: &IndexMap<u64, Denial>, hints: &[u64]) -> Result<bool, Memory>
-    requires { Each (λ step. AreBelow (length start) step.1) steps.now.entries }
-    ensures { IfOk result (λ proved. proved ≡ proves start (denials steps.now.entries hints.now)) }
+fn prove(
+    scratch: &mut Scratch,
+    steps: &IndexMap<u64, Denial>,
+    hints: &[u64],
+) -> Result<bool, Memory>
+    requires { Each (λ step. AreBelow (length scratch.old.present) step.1) steps.now.entries }
+    ensures base { scratch.new.base ≡ scratch.old.base }
+    ensures proved { IfOk result (λ proved. proved ≡ proves scratch.old.present (denials steps.now.entries hints.now)) }
 {
-    let mut state = start;
     for hint in hints {
-        if take_step(&mut state, steps, *hint)? {
+        if take_step(scratch, steps, *hint)? {
             return Ok(true);
         }
     }
-    Ok(state.dead())
+    Ok(scratch.state().dead())
 }
 
 /// Takes the hint of this number, if there is such a step, and answers whether it proves the nogood.
-fn take_step(state: &mut State, steps: &IndexMap<u64, Denial>, hint: u64) -> Result<bool, Memory>
-    requires { Each (λ step. AreBelow (length state.old) step.1) steps.now.entries }
-    ensures count { length state.new ≡ length state.old }
-    ensures turn { IfOk result (λ proved. (hints : List (List Atomic)) → proves state.old (cons_some (found hint steps.now.entries) hints) ≡ (proved || proves state.new hints)) }
+fn take_step(
+    scratch: &mut Scratch,
+    steps: &IndexMap<u64, Denial>,
+    hint: u64,
+) -> Result<bool, Memory>
+    requires { Each (λ step. AreBelow (length scratch.old.present) step.1) steps.now.entries }
+    ensures base { scratch.new.base ≡ scratch.old.base }
+    ensures count { length scratch.new.present ≡ length scratch.old.present }
+    ensures turn { IfOk result (λ proved. (hints : List (List Atomic)) → proves scratch.old.present (cons_some (found hint steps.now.entries) hints) ≡ (proved || proves scratch.new.present hints)) }
 {
     match steps.get(&hint) {
-        Some(denial) => take_hint(state, denial.as_slice()),
+        Some(denial) => take_hint(scratch, denial.as_slice()),
         None => Ok(false),
     }
 }
 
 /// Cuts the state by the hint, or answers that it proves the nogood.
-fn take_hint(state: &mut State, denial: &[Atom]) -> Result<bool, Memory>
-    requires { AreBelow (length state.old) denial.now }
-    ensures count { length state.new ≡ length state.old }
-    ensures turn { IfOk result (λ proved. (hints : List (List Atomic)) → proves state.old (denial.now ∷ hints) ≡ (proved || proves state.new hints)) }
+fn take_hint(scratch: &mut Scratch, denial: &[Atom]) -> Result<bool, Memory>
+    requires { AreBelow (length scratch.old.present) denial.now }
+    ensures base { scratch.new.base ≡ scratch.old.base }
+    ensures count { length scratch.new.present ≡ length scratch.old.present }
+    ensures turn { IfOk result (λ proved. (hints : List (List Atomic)) → proves scratch.old.present (denial.now ∷ hints) ≡ (proved || proves scratch.new.present hints)) }
 {
+    let state = scratch.state();
     if state.dead() {
         return Ok(true);
     }
@@ -92,7 +105,7 @@ fn take_hint(state: &mut State, denial: &[Atom]) -> Result<bool, Memory>
         return Ok(true);
     };
     if rests_on(state, denial, open.var()) {
-        state.refute(open.var(), denial)?;
+        scratch.refute(open.var(), denial)?;
     }
     Ok(false)
 }

@@ -1,42 +1,40 @@
-// Start states, and what a state entails.
+// Where the judging of a line starts, and what a state entails.
 
-ghost use Rattle.std.specs.Prelude.{◌≡◌, ◌<◌, length, IfOk, OnOk};
+ghost use Rattle.std.specs.Prelude.{◌≡◌, ◌<◌, length, OnOk};
 ghost use Rattle.dp_domain.specs.Atoms.{negated};
 ghost use Rattle.dp_domain.specs.States.{cut, cut_all, entails_all};
-ghost use Rattle.dp_parts.specs.Problems.{IsProblem};
 ghost use Rattle.dp_checker.specs.Kept.{AreBelow};
 
-use dp_domain::{Atom, Memory, State};
-use dp_parts::Problem;
+use dp_domain::{Atom, Memory, Scratch, State};
 
-/// The initial state of the problem, cut by the atoms.
-pub fn start_state(problem: &Problem, atoms: &[Atom]) -> Result<State, Memory>
-    requires { AreBelow (length problem.now.initial) atoms.now }
-    ensures start { IfOk result (λ state. state ≡ cut_all problem.now.initial atoms.now) }
-    ensures problem { OnOk result (IsProblem problem.now) }
+/// Goes back to the initial state, and from there to the one that is cut by the atoms.
+pub fn start_with(scratch: &mut Scratch, atoms: &[Atom]) -> Result<(), Memory>
+    requires { AreBelow (length scratch.old.base) atoms.now }
+    ensures base { scratch.new.base ≡ scratch.old.base }
+    ensures start { OnOk result (scratch.new.present ≡ cut_all scratch.old.base atoms.now) }
 {
-    let mut state = problem.initial().copy()?;
-    cut_by(&mut state, atoms)?;
-    Ok(state)
+    scratch.reset();
+    cut_by(scratch, atoms)
 }
 
-/// The initial state of the problem where the atom fails.
-pub fn start_beyond(problem: &Problem, atom: &Atom) -> Result<State, Memory>
-    requires { atom.now.var < length problem.now.initial }
-    ensures start { IfOk result (λ state. state ≡ cut problem.now.initial (negated atom.now)) }
-    ensures problem { OnOk result (IsProblem problem.now) }
+/// Goes back to the initial state, and from there to the one where the atom fails.
+pub fn start_beyond(scratch: &mut Scratch, atom: &Atom) -> Result<(), Memory>
+    requires { atom.now.var < length scratch.old.base }
+    ensures base { scratch.new.base ≡ scratch.old.base }
+    ensures start { OnOk result (scratch.new.present ≡ cut scratch.old.base (negated atom.now)) }
 {
-    let mut state = problem.initial().copy()?;
-    state.exclude(atom.negated())?;
-    Ok(state)
+    scratch.reset();
+    scratch.exclude(atom.negated())?;
+    Ok(())
 }
 
-fn cut_by(state: &mut State, atoms: &[Atom]) -> Result<(), Memory>
-    requires { AreBelow (length state.old) atoms.now }
-    ensures { OnOk result (state.new ≡ cut_all state.old atoms.now) }
+fn cut_by(scratch: &mut Scratch, atoms: &[Atom]) -> Result<(), Memory>
+    requires { AreBelow (length scratch.old.present) atoms.now }
+    ensures base { scratch.new.base ≡ scratch.old.base }
+    ensures cut { OnOk result (scratch.new.present ≡ cut_all scratch.old.present atoms.now) }
 {
     for atom in atoms {
-        state.exclude(*atom)?;
+        scratch.exclude(*atom)?;
     }
     Ok(())
 }

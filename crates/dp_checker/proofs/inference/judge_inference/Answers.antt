@@ -3,13 +3,15 @@ use Rattle.dp_domain.specs.Atoms.{Atomic}
 use Rattle.dp_domain.specs.States.{Domains}
 use Rattle.dp_domain.proofs.StateLaws.{length-cut_all}
 use Rattle.dp_checker.specs.Kept.{AreBelow}
-use Rattle.dp_checker.proofs.Below.{inference_below}
+use Rattle.dp_checker.proofs.Below.{below_base, inference_below}
 use Rattle.dp_checker.proofs.inference.judge_inference.Goals as goal
 
-pub start_state-requires : goal.start_state-requires
-start_state-requires c =
-    subst (λ (atoms : List Atomic). AreBelow (length c.args.problem.now.initial) atoms) (sym (c.as_slice.ensures.value ∙ c.in_ok-denial.ensures))
-    (inference_below (length c.args.problem.now.initial) c.args.facts.now.atoms.entries c.requires.atoms c.args.premises.now c.args.consequent)
+pub start_with-requires : goal.start_with-requires
+start_with-requires c =
+    subst (λ (atoms : List Atomic). AreBelow (length c.args.scratch.now.base) atoms) (sym (c.as_slice.ensures.value ∙ c.in_ok-denial.ensures))
+    (below_base c.args.scratch.now.base c.args.problem.now.initial _ c.requires.base
+    (inference_below (length c.args.problem.now.initial) c.args.facts.now.atoms.entries c.requires.kept.atoms c.args.premises.now c.args.consequent))
 
 pub holds-requires : goal.holds-requires
-holds-requires c = ap (λ (d : Domains). length d) c.in_ok-start.ensures.start ∙ length-cut_all c.args.problem.now.initial c.as_slice.result.now
+holds-requires c =
+    ap (λ (d : Domains). length d) (c.state.ensures.present ∙ c.in_ok-start_with.ensures.start) ∙ length-cut_all c.args.scratch.now.base c.as_slice.result.now ∙ ap (λ (d : Domains). length d) c.requires.base

@@ -9,6 +9,6 @@ use Rattle.dp_checker.proofs.nogood.take_step.Goals as goal
 pub take_hint-requires : goal.take_hint-requires
 take_hint-requires c =
     let at : found c.args.hint c.args.steps.now.entries ≡ Some c.in-Some.denial.now = sym c.in-Some.ensures.value in
-    let below : AreBelow (length c.args.state.now) c.in-Some.denial.now =
-    subst (λ (o : Option (List Atomic)). IfSome o (AreBelow (length c.args.state.now))) at (found_each (AreBelow (length c.args.state.now)) c.args.hint c.args.steps.now.entries c.requires) in
-    subst (λ (atoms : List Atomic). AreBelow (length c.args.state.now) atoms) (sym c.as_slice.ensures) below
+    let below : AreBelow (length c.args.scratch.now.present) c.in-Some.denial.now =
+    subst (λ (o : Option (List Atomic)). IfSome o (AreBelow (length c.args.scratch.now.present))) at (found_each (AreBelow (length c.args.scratch.now.present)) c.args.hint c.args.steps.now.entries c.requires) in
+    subst (λ (atoms : List Atomic). AreBelow (length c.args.scratch.now.present) atoms) (sym c.as_slice.ensures) below

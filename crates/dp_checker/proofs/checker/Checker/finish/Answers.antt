@@ -11,4 +11,4 @@ pub returns-clause-sound : goal.returns-clause-sound
 returns-clause-sound c =
     subst (λ (k : Checking). IfOk c.verdict_of.result (IsRight k.problem)) c.self.view_is
     (subst (λ (r : Result Verdict StepRefusal). IfOk r (IsRight c.self.inside.problem.now)) (sym c.verdict_of.ensures)
-    (right_conclusion c.self.inside.problem.now c.args.lines c.self.inside.facts.conclusion c.self.invariant.backed.conclusion))
+    (right_conclusion c.self.inside.problem.now c.args.lines c.self.inside.facts.conclusion c.self.invariant.kept.backed.conclusion))
