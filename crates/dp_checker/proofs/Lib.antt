@@ -3,3 +3,4 @@ pub mod Below
 pub mod Loops
 pub mod Right
 mod TestProblem
+pub mod StoredLaws

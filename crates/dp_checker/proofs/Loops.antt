@@ -1,7 +1,6 @@
 -- Steps of the checker's loops, and what its calls need.
 use Rattle.std.proofs.Common.{◌≡◌, ℕ, ◌+◌, ◌<◌, Bool, true, false, ◌||◌, Option, Some, None, List, [], ◌∷◌, ◌++◌, length, get_or, drop, ℤ, is_some, if◌then◌else◌, refl, sym, ◌∙◌, ap, subst, add-one, eqb}
-use Rattle.std.specs.List.{list_any, list_all}
-use Rattle.std.specs.Map.{values_of}
+use Rattle.std.specs.List.{list_all}
 use Rattle.std.proofs.Math.Seq.{drop-cons}
 use Rattle.std.proofs.lemmas.Bool.{false≢true}
 use Rattle.dp_base.specs.Lists.{Among, Each}
@@ -84,13 +83,3 @@ pub prove_step : (steps : List (ℕ × List Atomic)) (hints : List ℕ) (i : ℕ
 prove_step steps hints i now next whole b lt turn e inv =
     let later : List (List Atomic) = denials steps (drop (i + 1) hints) in
     sym (ap (λ (x : Bool). x || proves next later) e) ∙ sym (turn later) ∙ sym (ap (λ (hs : List ℕ). proves now (denials steps hs)) (next_at hints i 0 lt)) ∙ inv
-
--- ---- entries
-
-pub any_value : (p : List Atomic → Bool) (steps : List (ℕ × List Atomic)) → list_any p (values_of steps) ≡ list_any (λ step. p step.1) steps
-any_value p [] = refl
-any_value p (step ∷ steps) = ap (λ (b : Bool). p step.1 || b) (any_value p steps)
-
-pub each_value : (P : List Atomic → Type 0) (steps : List (ℕ × List Atomic)) → Each (λ step. P step.1) steps → Each P (values_of steps)
-each_value P [] e = tt
-each_value P (step ∷ steps) e = (e.0, each_value P steps e.1)

@@ -17,7 +17,7 @@ pub record Checking : Type 0 where
 
 -- what the kept atoms, denials and conclusion say
 abbrev pub known_of : Facts → Known
-known_of f = record { atoms = f.atoms.entries; steps = f.steps.entries; conclusion = f.conclusion }
+known_of f = record { atoms = f.atoms.entries; steps = f.steps; conclusion = f.conclusion }
 
 -- the refusal, or what is known where there is none
 abbrev pub progress_of : Option StepRefusal → Known → Result Known StepRefusal

@@ -4,3 +4,4 @@ pub mod Soundness
 pub mod Kept
 pub mod Answers
 pub mod SoundnessLaws
+pub mod Stored

@@ -12,10 +12,11 @@ ghost use Rattle.dp_checker.specs.Known.{nothing};
 ghost use Rattle.dp_base.specs.Names.{named};
 
 use crate::conclusion::judge_claim;
-use crate::facts::{Facts, add_atom, add_step};
+use crate::facts::{Facts, add_atom};
 use crate::fault::{CheckFault, Fault};
 use crate::inference::judge_inference;
 use crate::nogood::judge_nogood;
+use crate::steps::Steps;
 use crate::{StepRefusal, Why};
 use dp_domain::{Atom, Memory, Name, Op, Scratch, Verdict};
 use dp_lines::Line;
@@ -52,7 +53,7 @@ impl<'p> Checker<'p> {
     {
         let facts = Facts {
             atoms: IndexMap::new(alloc),
-            steps: IndexMap::new(alloc),
+            steps: Steps::new(alloc),
             conclusion: None,
         };
         let scratch = Scratch::new(problem.initial().copy()?);
@@ -180,12 +181,19 @@ fn learn_line(
                 *constraint,
                 label,
             )?;
-            add_step(&mut facts.steps, *id, denial)?;
+            facts.steps.push(*id, denial.as_slice())?;
             Ok(())
         }
         Line::Nogood { id, atoms, hints } => {
-            let denial = judge_nogood(problem, facts, scratch, *id, atoms.as_slice(), hints.as_slice())?;
-            add_step(&mut facts.steps, *id, denial)?;
+            let denial = judge_nogood(
+                problem,
+                facts,
+                scratch,
+                *id,
+                atoms.as_slice(),
+                hints.as_slice(),
+            )?;
+            facts.steps.push(*id, denial.as_slice())?;
             Ok(())
         }
         Line::Delete { id: _ } => unreachable!(),

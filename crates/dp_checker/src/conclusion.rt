@@ -10,14 +10,14 @@ ghost use Rattle.dp_parts.specs.Rules.{concludes};
 ghost use Rattle.dp_lines.specs.declared.line.Claim.TheVariants.{Unsat, Bound};
 
 use crate::Why;
-use crate::facts::{Denial, Facts};
+use crate::facts::Facts;
 use crate::fault::Fault;
 use crate::literals::literal_atom;
-use crate::start::{entails_all, start_beyond};
+use crate::start::start_beyond;
+use crate::steps::Steps;
 use dp_domain::{Atom, Op, Scratch, State, Verdict};
 use dp_lines::Claim;
 use dp_parts::{Goal, Problem};
-use indexmap::IndexMap;
 
 /// What a claim that holds concludes, or the first test that it fails.
 pub fn judge_claim(
@@ -121,17 +121,9 @@ fn is_at_most(op: Op) -> bool
 }
 
 /// Whether the state is empty, or entails all that some step denies.
-fn concludes(start: &State, steps: &IndexMap<u64, Denial>) -> bool
-    requires { Each (λ step. AreBelow (length start.now) step.1) steps.now.entries }
-    ensures { result ≡ concludes start.now steps.now.entries }
+fn concludes(start: &State, steps: &Steps) -> bool
+    requires { Each (λ step. AreBelow (length start.now) step.1) steps.now }
+    ensures { result ≡ concludes start.now steps.now }
 {
-    if start.dead() {
-        return true;
-    }
-    for denial in steps.values() {
-        if entails_all(start, denial.as_slice()) {
-            return true;
-        }
-    }
-    false
+    start.dead() || steps.any_entailed(start)
 }

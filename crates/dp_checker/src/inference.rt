@@ -13,11 +13,11 @@ ghost use Rattle.dp_checker.specs.Kept.{IsKept};
 ghost use Rattle.dp_parts.specs.Rules.{implies, is_labelled};
 
 use crate::Why;
-use crate::facts::{Denial, Facts};
+use crate::facts::Facts;
 use crate::fault::Fault;
 use crate::literals::{first_undefined_of, inference_denial};
 use crate::start::start_with;
-use dp_domain::{Memory, Name, Scratch, State, Test};
+use dp_domain::{Atom, Memory, Name, Scratch, State, Test};
 use dp_parts::{Part, Problem};
 
 /// The denial of an inference that holds, or the first test that it fails.
@@ -30,18 +30,18 @@ pub fn judge_inference(
     consequent: Option<i64>,
     constraint: Option<u64>,
     label: &Option<Name>,
-) -> Result<Denial, Fault>
+) -> Result<Vec<Atom>, Fault>
     requires kept { IsKept problem.now (known_of facts.now) }
     requires base { scratch.old.base ≡ problem.now.initial }
     ensures base { scratch.new.base ≡ scratch.old.base }
     ensures accepted { OnOk result (inference_refusal (posed problem.now) (known_of facts.now) id premises.now consequent constraint label.now ≡ None) }
-    ensures denial { IfOk result (λ denial. denial ≡ inference_denial facts.now.atoms.entries premises.now consequent) }
+    ensures denial { IfOk result (λ denial. denial.items ≡ inference_denial facts.now.atoms.entries premises.now consequent) }
     ensures refused { IfRefused result (λ why. inference_refusal (posed problem.now) (known_of facts.now) id premises.now consequent constraint label.now ≡ Some why) }
 {
     if let Some(literal) = first_undefined_of(&facts.atoms, premises, consequent) {
         return Err(Fault::Refused(Why::UnknownAtom(literal)));
     }
-    if facts.steps.contains_key(&id) {
+    if facts.steps.contains_key(id) {
         return Err(Fault::Refused(Why::StepTwice));
     }
     if !is_constraint(problem, constraint) {
@@ -50,13 +50,13 @@ pub fn judge_inference(
     if !is_fitting(problem, constraint, label) {
         return Err(Fault::Refused(Why::WrongLabel));
     }
-    let alloc = *facts.steps.allocator();
+    let alloc = facts.steps.allocator();
     let denial = inference_denial(alloc, &facts.atoms, premises, consequent)?;
     start_with(scratch, denial.as_slice())?;
     if !holds(problem, scratch.state(), constraint, label)? {
         return Err(Fault::Refused(Why::NotImplied));
     }
-    Ok(Denial::new(denial))
+    Ok(denial)
 }
 
 /// Whether the number is a constraint's, where one is given.

@@ -10,6 +10,7 @@ mod literals;
 mod nogood;
 mod refusal;
 mod start;
+mod steps;
 #[cfg(test)]
 mod tests;
 

@@ -4,7 +4,7 @@ ghost use Rattle.std.specs.Prelude.{◌≡◌, ◌++◌, [], IfOk, OnOk, option_
 ghost use Rattle.dp_checker.specs.Judged.{against, inference_denial, with_last};
 ghost use Rattle.dp_checker.specs.Known.{cons_some, first_undefined, first_unknown, found, literal_atom, literal_atoms};
 
-use crate::facts::Denial;
+use crate::steps::Steps;
 use dp_domain::{Atom, Memory};
 use indexmap::IndexMap;
 use std::alloc::Global;
@@ -68,11 +68,11 @@ fn undefined_last(atoms: &IndexMap<u64, Atom>, consequent: Option<i64>) -> Optio
 }
 
 /// The first hint that is no step so far.
-pub fn first_unknown(steps: &IndexMap<u64, Denial>, hints: &[u64]) -> Option<u64>
-    ensures { result ≡ first_unknown steps.now.entries hints.now }
+pub fn first_unknown(steps: &Steps, hints: &[u64]) -> Option<u64>
+    ensures { result ≡ first_unknown steps.now hints.now }
 {
     for hint in hints {
-        if !steps.contains_key(hint) {
+        if !steps.contains_key(*hint) {
             return Some(*hint);
         }
     }

@@ -13,13 +13,13 @@ ghost use Rattle.dp_checker.specs.Known.{cons_some, denials, found, literal_atom
 ghost use Rattle.dp_parts.specs.Rules.{proves};
 
 use crate::Why;
-use crate::facts::{Denial, Facts};
+use crate::facts::Facts;
 use crate::fault::Fault;
 use crate::literals::{first_undefined, first_unknown, literal_atoms};
 use crate::start::start_with;
+use crate::steps::Steps;
 use dp_domain::{Atom, Memory, Scratch, State, VarId};
 use dp_parts::Problem;
-use indexmap::IndexMap;
 
 /// The denial of a nogood that its hints prove, or the first test that it fails.
 pub fn judge_nogood(
@@ -29,41 +29,37 @@ pub fn judge_nogood(
     id: u64,
     atoms: &[i64],
     hints: &[u64],
-) -> Result<Denial, Fault>
+) -> Result<Vec<Atom>, Fault>
     requires kept { IsKept problem.now (known_of facts.now) }
     requires base { scratch.old.base ≡ problem.now.initial }
     ensures base { scratch.new.base ≡ scratch.old.base }
     ensures accepted { OnOk result (nogood_refusal (posed problem.now) (known_of facts.now) id atoms.now hints.now ≡ None) }
-    ensures denial { IfOk result (λ denial. denial ≡ literal_atoms facts.now.atoms.entries atoms.now) }
+    ensures denial { IfOk result (λ denial. denial.items ≡ literal_atoms facts.now.atoms.entries atoms.now) }
     ensures refused { IfRefused result (λ why. nogood_refusal (posed problem.now) (known_of facts.now) id atoms.now hints.now ≡ Some why) }
 {
     if let Some(literal) = first_undefined(&facts.atoms, atoms) {
         return Err(Fault::Refused(Why::UnknownAtom(literal)));
     }
-    if facts.steps.contains_key(&id) {
+    if facts.steps.contains_key(id) {
         return Err(Fault::Refused(Why::StepTwice));
     }
     if let Some(hint) = first_unknown(&facts.steps, hints) {
         return Err(Fault::Refused(Why::UnknownStep(hint)));
     }
-    let alloc = *facts.steps.allocator();
+    let alloc = facts.steps.allocator();
     let denial = literal_atoms(alloc, &facts.atoms, atoms)?;
     start_with(scratch, denial.as_slice())?;
     if !prove(scratch, &facts.steps, hints)? {
         return Err(Fault::Refused(Why::NoClash));
     }
-    Ok(Denial::new(denial))
+    Ok(denial)
 }
 
 /// Whether the hints prove that nothing in the start state is left.
-fn prove(
-    scratch: &mut Scratch,
-    steps: &IndexMap<u64, Denial>,
-    hints: &[u64],
-) -> Result<bool, Memory>
-    requires { Each (λ step. AreBelow (length scratch.old.present) step.1) steps.now.entries }
+fn prove(scratch: &mut Scratch, steps: &Steps, hints: &[u64]) -> Result<bool, Memory>
+    requires { Each (λ step. AreBelow (length scratch.old.present) step.1) steps.now }
     ensures base { scratch.new.base ≡ scratch.old.base }
-    ensures proved { IfOk result (λ proved. proved ≡ proves scratch.old.present (denials steps.now.entries hints.now)) }
+    ensures proved { IfOk result (λ proved. proved ≡ proves scratch.old.present (denials steps.now hints.now)) }
 {
     for hint in hints {
         if take_step(scratch, steps, *hint)? {
@@ -74,18 +70,14 @@ fn prove(
 }
 
 /// Takes the hint of this number, if there is such a step, and answers whether it proves the nogood.
-fn take_step(
-    scratch: &mut Scratch,
-    steps: &IndexMap<u64, Denial>,
-    hint: u64,
-) -> Result<bool, Memory>
-    requires { Each (λ step. AreBelow (length scratch.old.present) step.1) steps.now.entries }
+fn take_step(scratch: &mut Scratch, steps: &Steps, hint: u64) -> Result<bool, Memory>
+    requires { Each (λ step. AreBelow (length scratch.old.present) step.1) steps.now }
     ensures base { scratch.new.base ≡ scratch.old.base }
     ensures count { length scratch.new.present ≡ length scratch.old.present }
-    ensures turn { IfOk result (λ proved. (hints : List (List Atomic)) → proves scratch.old.present (cons_some (found hint steps.now.entries) hints) ≡ (proved || proves scratch.new.present hints)) }
+    ensures turn { IfOk result (λ proved. (hints : List (List Atomic)) → proves scratch.old.present (cons_some (found hint steps.now) hints) ≡ (proved || proves scratch.new.present hints)) }
 {
-    match steps.get(&hint) {
-        Some(denial) => take_hint(scratch, denial.as_slice()),
+    match steps.get(hint) {
+        Some(denial) => take_hint(scratch, denial),
         None => Ok(false),
     }
 }

@@ -15,5 +15,5 @@ start_with-requires c =
 
 pub prove-requires : goal.prove-requires
 prove-requires c =
-    each_below _ (length c.args.problem.now.initial) c.args.facts.now.steps.entries
+    each_below _ (length c.args.problem.now.initial) c.args.facts.now.steps
     (ap (λ (d : Domains). length d) c.in_ok-start_with.ensures.start ∙ length-cut_all c.args.scratch.now.base c.as_slice.result.now ∙ ap (λ (d : Domains). length d) c.requires.base) c.requires.kept.steps

@@ -1,6 +1,0 @@
-use Rattle.std.proofs.Common.{nat_eq, ◌∙◌}
-use Rattle.indexmap.proofs.CallerLemmas.{insert_entry-new}
-use Rattle.dp_checker.proofs.facts.add_step.Goals as goal
-
-pub returns-clause-added : goal.returns-clause-added
-returns-clause-added c = c.in_ok-insert.ensures.entries ∙ insert_entry-new nat_eq c.args.steps.now c.args.id c.args.denial c.requires
