@@ -6,7 +6,7 @@ use Rattle.std.proofs.lemmas.List.FromFn.{get_or-enumerate_from, length-enumerat
 use Rattle.dp_domain.specs.declared.term.Term.{Term}
 use Rattle.dp_rule_element.specs.Selections.{numbered}
 
-entry_at : (xs : List Term) (i : ℕ) (t : Term) → i < length xs → t ≡ get_or xs i t → get_or (numbered xs) i (0, t) ≡ (let e : ℕ × Term = (i + 1, t) in e)
+pub entry_at : (xs : List Term) (i : ℕ) (t : Term) → i < length xs → t ≡ get_or xs i t → get_or (numbered xs) i (0, t) ≡ (let e : ℕ × Term = (i + 1, t) in e)
 entry_at xs i t h e =
     get_or-enumerate_from 1 xs i (0, t) h ∙ ap (λ (n : ℕ). (let p : ℕ × Term = (n, get_or xs i t) in p)) (next i) ∙ ap (λ (u : Term). (let p : ℕ × Term = (i + 1, u) in p)) (sym e)
   where

@@ -21,14 +21,14 @@ use Rattle.dp_rule_element.specs.Selections.{ClashesElement, IsEntry, MeetsEleme
 -- ---- entries and their numbers
 
 -- an entry that is numbered from n stands at its place
-numbered_at : (n : ℕ) (xs : List Term) (e : ℕ × Term) → Among e (enumerate_from n xs) → (k : ℕ) × (e.0 ≡ n + k) × (slice_get xs k ≡ Some e.1)
+pub numbered_at : (n : ℕ) (xs : List Term) (e : ℕ × Term) → Among e (enumerate_from n xs) → (k : ℕ) × (e.0 ≡ n + k) × (slice_get xs k ≡ Some e.1)
 numbered_at n [] e here = absurd here
 numbered_at n (x ∷ xs) e (inl h) = (zero, ap (λ (f : ℕ × Term). f.0) h ∙ omega arith, sym (ap (λ (f : ℕ × Term). Some f.1) h))
 numbered_at n (x ∷ xs) e (inr h) =
     let r = numbered_at (n + 1) xs e h in (suc r.0, omega (arith, r.1), r.2)
 
 -- the term at a place is numbered so
-among_numbered : (n : ℕ) (xs : List Term) (k : ℕ) (t : Term) → slice_get xs k ≡ Some t → Among (n + k, t) (enumerate_from n xs)
+pub among_numbered : (n : ℕ) (xs : List Term) (k : ℕ) (t : Term) → slice_get xs k ≡ Some t → Among (n + k, t) (enumerate_from n xs)
 among_numbered n [] k t e = absurd (none_some t e)
   where
     none_some : (t : Term) → None ≡ Some t → ⊥
@@ -128,7 +128,7 @@ list_any-same : {A : Type 0} (p q : A → Bool) (xs : List A) → ((x : A) → A
 list_any-same p q [] each = refl
 list_any-same p q (x ∷ xs) each = ap (λ b. b || list_any p xs) (each x (inl refl)) ∙ ap (λ b. q x || b) (list_any-same p q xs (λ y here. each y (inr here)))
 
-among_at : (xs : List Term) (k : ℕ) (t : Term) → slice_get xs k ≡ Some t → Among t xs
+pub among_at : (xs : List Term) (k : ℕ) (t : Term) → slice_get xs k ≡ Some t → Among t xs
 among_at xs k t e = entry_of 1 xs (1 + k, t) (among_numbered 1 xs k t e)
   where
     entry_of : (n : ℕ) (xs : List Term) (e : ℕ × Term) → Among e (enumerate_from n xs) → Among e.1 xs
@@ -217,7 +217,7 @@ same_var x y e = cc
 const_or_var : (v : ℤ) (x : ℕ) → Const v ≡ Var x → ⊥
 const_or_var v x e = cc
 
-variable_exact : (t : Term) (x : ℕ) → is_variable t x ≡ true ↔ (t ≡ Var x)
+pub variable_exact : (t : Term) (x : ℕ) → is_variable t x ≡ true ↔ (t ≡ Var x)
 variable_exact (Var y) x = (λ e. ap (λ (z : ℕ). Var z) ((Decides-eqb y x).0 e), λ e. (Decides-eqb y x).1 (same_var y x e))
 variable_exact (Const v) x = (λ e. absurd (false≢true e), λ e. absurd (const_or_var v x e))
 

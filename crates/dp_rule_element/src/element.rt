@@ -2,9 +2,9 @@
 
 ghost use Rattle.std.specs.Prelude.{◌≡◌, IfOk};
 ghost use Rattle.dp_rule_element.specs.SelectionLaws.{element_deciding, element_exact, element_lawful, element_sound};
-ghost use Rattle.dp_rule_element.specs.Selections.{ClashesElement, MeetsElement, face_element, is_variable};
+ghost use Rattle.dp_rule_element.specs.Selections.{ClashesElement, MeetsElement, face_element};
 
-use crate::{Atom, Found, Memory, Rule, State, Steps, Term, Test, VarId, entries};
+use crate::{Atom, Found, Memory, Rule, State, Steps, Term, Test, VarId, entries, places, turn};
 use dp_domain::{search_explanation, search_turn, term_scope};
 use std::alloc::Global;
 use std::marker::Model;
@@ -68,16 +68,6 @@ impl Element {
     }
 }
 
-/// Whether the term is this variable.
-fn is_variable(term: Term, var: VarId) -> bool
-    ensures { result ≡ is_variable term var }
-{
-    match term {
-        Term::Var(own) => own == var,
-        Term::Const(_) => false,
-    }
-}
-
 impl Test for Element {
     ghost face = { face_element };
 
@@ -102,7 +92,7 @@ impl Test for Element {
     }
 
     fn is_point(&self, var: VarId, _value: i64) -> bool {
-        is_variable(self.index, var)
+        places::is_variable(self.index, var)
     }
 
     fn clash(&self, state: &State) -> Result<bool, Memory> {
@@ -114,12 +104,19 @@ impl Test for Element {
 }
 
 impl Rule for Element {
+    /// Where the index or the value is a variable that stands at another place too, it is found by the
+    /// test; else in time near the sizes of the sets of all its terms.
     fn next<L: Ledger>(
         &self,
         state: &State,
         steps: &mut Steps<L>,
     ) -> Result<Option<Found>, Memory> {
-        search_turn(self, state, steps)
+        let (index, array, value) = (&self.index, self.array.as_slice(), &self.value);
+        if !places::stand_apart(index, array, value) {
+            return search_turn(self, state, steps);
+        }
+        steps.tick();
+        turn::found(index, array, value, self.scope.as_slice(), state)
     }
 
     fn explain(

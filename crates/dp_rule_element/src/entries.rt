@@ -35,7 +35,7 @@ pub fn any_selectable(index: &Term, array: &[Term], value: &Term, state: &State)
 }
 
 /// Whether the entry at the place can be selected.
-fn is_selectable(index: &Term, place: usize, entry: &Term, value: &Term, state: &State) -> bool
+pub fn is_selectable(index: &Term, place: usize, entry: &Term, value: &Term, state: &State) -> bool
     requires few { place + 1 < 2 ^ 63 }
     requires index { IsTermOf (length state.now) index.now }
     requires entry { IsTermOf (length state.now) entry.now }
@@ -46,7 +46,7 @@ fn is_selectable(index: &Term, place: usize, entry: &Term, value: &Term, state: 
 }
 
 /// Whether the index may be the number of the entry at the place.
-fn may_be_at(index: Term, place: usize, state: &State) -> bool
+pub fn may_be_at(index: Term, place: usize, state: &State) -> bool
     requires few { place + 1 < 2 ^ 63 }
     requires index { IsTermOf (length state.now) index }
     ensures { result ≡ is_among (pos (place + 1)) (term_values state.now index) }
