@@ -1,9 +1,10 @@
 -- What was replaced is put back from the last on.
-use Rattle.std.proofs.Common.{◌≡◌, ℕ, ◌<◌, List, [], ◌∷◌, ◌++◌, length, get_or, set, ℤ, refl, sym, ◌∙◌, ap, subst}
+use Rattle.std.proofs.Common.{◌≡◌, ℕ, suc, ◌-◌, ◌<◌, true, slice_get, arith, List, [], ◌∷◌, ◌++◌, length, get_or, set, ℤ, refl, sym, ◌∙◌, ap, subst}
+use Rattle.std.proofs.lemmas.Bool.{eqb-true, false≢true}
 use Rattle.std.proofs.lemmas.List.{length-set, set-get_or, set-set}
 use Rattle.dp_base.specs.Lists.{Each}
 use Rattle.dp_base.proofs.Lists.{Each-append, Each-append_parts}
-use Rattle.dp_domain.specs.Scratches.{put_back, put_back_all}
+use Rattle.dp_domain.specs.Scratches.{ends_with, is_of, put_back, put_back_all}
 use Rattle.dp_domain.specs.States.{Domains, values}
 use Rattle.dp_domain.specs.declared.scratch.Replaced.{Replaced}
 
@@ -44,3 +45,19 @@ variables-popped rs old r n e k =
 pub length-put_back_all : (rs : List Replaced) (d : Domains) → length (put_back_all rs d) ≡ length d
 length-put_back_all [] d = refl
 length-put_back_all (r ∷ rs) d = length-set (put_back_all rs d) r.var r.set ∙ length-put_back_all rs d
+
+-- what the last set takes the place of is forgotten
+pub put_back-again : (rs : List Replaced) (x : ℕ) (ys : List ℤ) (d : Domains) → ends_with x rs ≡ true → put_back_all rs (set d x ys) ≡ put_back_all rs d
+put_back-again [] x ys d e = absurd (false≢true e)
+put_back-again (r ∷ []) x ys d e =
+    ap (λ (y : ℕ). set (set d y ys) r.var r.set) (sym (eqb-true r.var x e)) ∙ set-set d r.var ys r.set
+put_back-again (r ∷ q ∷ rs) x ys d e =
+    let same : length (r ∷ q ∷ rs) - 1 ≡ suc (length (q ∷ rs) - 1) = omega arith in
+    ap (put_back r) (put_back-again (q ∷ rs) x ys d (subst (λ (n : ℕ). is_of x (slice_get (r ∷ q ∷ rs) n) ≡ true) same e))
+
+-- the same of a state with another set, and the kept sets are of variables that there are
+pub put_back-over : (rs : List Replaced) (x : ℕ) (ys : List ℤ) (d e : Domains) → ends_with x rs ≡ true → e ≡ set d x ys → put_back_all rs e ≡ put_back_all rs d
+put_back-over rs x ys d e h k = ap (put_back_all rs) k ∙ put_back-again rs x ys d h
+
+pub variables-over : (rs : List Replaced) (x : ℕ) (ys : List ℤ) (d e : Domains) → e ≡ set d x ys → Each (λ (r : Replaced). r.var < length d) rs → Each (λ (r : Replaced). r.var < length e) rs
+variables-over rs x ys d e h k = subst (λ (m : ℕ). Each (λ (r : Replaced). r.var < m) rs) (sym (ap (λ (b : Domains). length b) h ∙ length-set d x ys)) k

@@ -5,15 +5,17 @@ ghost use Rattle.dp_domain.specs.Explanations.{Explains, IsOpen, explanation, fa
 ghost use Rattle.dp_domain.specs.Faces.{Covers};
 ghost use Rattle.dp_domain.specs.States.{AreOf, IsWithin, cut_all, fails_one, is_dead, values};
 
-use crate::{Atom, Dom, Memory, State, Test, VarId};
+use crate::{Atom, Dom, Memory, Scratch, State, Test, VarId};
 use std::alloc::Global;
 
 /// The explanation of any part, found by its test: the description of the state `now` beyond the
 /// initial one, with each atom dropped in turn where those kept and those to come suffice without it.
-/// It copies the initial state once; for each test it makes the set of one variable anew.
+/// It works on a working state of the initial one, and copies no state; for each test it makes the set
+/// of one variable anew.
 pub fn search_explanation<R: Test>(
     rule: &R,
     initial: &State,
+    work: &mut Scratch,
     now: &State,
     target: Option<Atom>,
 ) -> Result<Vec<Atom>, Memory>
@@ -22,12 +24,14 @@ pub fn search_explanation<R: Test>(
     requires within { IsWithin now.now initial.now }
     requires open { IsOpen now.now target }
     requires clash { suffices (R.face rule.now) now.now target [] ≡ true }
+    requires base { work.old.base ≡ initial.now }
+    ensures base { work.new.base ≡ initial.now }
     ensures explanation { IfOk result (λ atoms. atoms.items ≡ explanation (R.face rule.now) initial.now now.now target) }
     ensures meaning { IfOk result (λ atoms. Explains (R.face rule.now) initial.now now.now target atoms.items) }
 {
     let scope = scope_of(rule, now.allocator())?;
     let description = now.describe(initial, scope.as_slice())?;
-    needed(rule, initial, &target, description.as_slice())
+    needed(rule, initial, work, &target, description.as_slice())
 }
 
 /// The part's variables.
@@ -41,32 +45,27 @@ fn scope_of<R: Test>(rule: &R, alloc: Global) -> Result<Vec<VarId>, Memory>
     Ok(scope)
 }
 
-/// The atoms without which the others do not suffice, from the first on. The one working copy is the
+/// The atoms without which the others do not suffice, from the first on. The working state is the
 /// initial state cut by the atoms kept and those to come, and by the target's failing.
 fn needed<R: Test>(
     rule: &R,
     initial: &State,
+    work: &mut Scratch,
     target: &Option<Atom>,
     atoms: &[Atom],
 ) -> Result<Vec<Atom>, Memory>
     requires covers { Covers (R.face rule.now).scope initial.now }
     requires atoms { AreOf initial.now atoms.now }
     requires target { AreOf initial.now (failing target.now) }
-    ensures { IfOk result (λ kept. kept.items ≡ needed (R.face rule.now) initial.now target.now [] atoms.now) }
+    requires base { work.old.base ≡ initial.now }
+    ensures base { work.new.base ≡ initial.now }
+    ensures kept { IfOk result (λ kept. kept.items ≡ needed (R.face rule.now) initial.now target.now [] atoms.now) }
 {
-    let mut state = cut_copy(initial, target, atoms)?;
+    cut_anew(work, target, atoms)?;
     let mut kept = Vec::new(initial.allocator());
     for place in 0..atoms.len() {
         let rest = rest_of(atoms, place + 1);
-        keep_needed(
-            rule,
-            initial,
-            target,
-            &mut state,
-            &mut kept,
-            atoms[place],
-            rest,
-        )?;
+        keep_needed(rule, initial, work, target, &mut kept, atoms[place], rest)?;
     }
     Ok(kept)
 }
@@ -76,47 +75,51 @@ fn needed<R: Test>(
 fn keep_needed<R: Test>(
     rule: &R,
     initial: &State,
+    work: &mut Scratch,
     target: &Option<Atom>,
-    state: &mut State,
     kept: &mut Vec<Atom>,
     atom: Atom,
     rest: &[Atom],
 ) -> Result<(), Memory>
     requires covers { Covers (R.face rule.now).scope initial.now }
     requires var { atom.var < length initial.now }
-    requires state { state.old ≡ cut_all initial.now ((kept.old.items ++ atom ∷ rest.now) ++ failing target.now) }
+    requires base { work.old.base ≡ initial.now }
+    requires state { work.old.present ≡ cut_all initial.now ((kept.old.items ++ atom ∷ rest.now) ++ failing target.now) }
+    ensures base { work.new.base ≡ initial.now }
     ensures kept { OnOk result (kept.new.items ≡ (if suffices (R.face rule.now) initial.now target.now (kept.old.items ++ rest.now) then kept.old.items else kept.old.items ++ atom ∷ [])) }
-    ensures state { OnOk result (state.new ≡ cut_all initial.now ((kept.new.items ++ rest.now) ++ failing target.now)) }
+    ensures state { OnOk result (work.new.present ≡ cut_all initial.now ((kept.new.items ++ rest.now) ++ failing target.now)) }
 {
     let set = set_by(initial, target, atom.var(), kept.as_slice(), rest)?;
-    let old = state.replace(atom.var(), set);
-    let enough = rule.clash(state)?;
+    let old = work.state().set(atom.var()).copy()?;
+    work.replace(atom.var(), set)?;
+    let enough = rule.clash(work.state())?;
     if !enough {
-        keep(state, kept, atom, old)?;
+        keep(work, kept, atom, old)?;
     }
     Ok(())
 }
 
 /// Keeps the atom, and puts the old set of its variable back.
-fn keep(state: &mut State, kept: &mut Vec<Atom>, atom: Atom, old: Dom) -> Result<(), Memory>
-    requires { atom.var < length state.old }
+fn keep(work: &mut Scratch, kept: &mut Vec<Atom>, atom: Atom, old: Dom) -> Result<(), Memory>
+    requires { atom.var < length work.old.present }
+    ensures base { work.new.base ≡ work.old.base }
     ensures kept { OnOk result (kept.new.items ≡ kept.old.items ++ atom ∷ []) }
-    ensures state { state.new ≡ slice_set state.old atom.var old }
+    ensures state { OnOk result (work.new.present ≡ slice_set work.old.present atom.var old) }
 {
-    state.replace(atom.var(), old);
+    work.replace(atom.var(), old)?;
     Ok(kept.push(atom)?)
 }
 
-/// A copy of the state, cut by the atoms and by the negation of the target.
-fn cut_copy(initial: &State, target: &Option<Atom>, atoms: &[Atom]) -> Result<State, Memory>
-    requires atoms { AreOf initial.now atoms.now }
-    requires target { AreOf initial.now (failing target.now) }
-    ensures { IfOk result (λ state. state ≡ cut_all initial.now (atoms.now ++ failing target.now)) }
+/// Goes back to the base, and cuts it by the atoms and by the negation of the target.
+fn cut_anew(work: &mut Scratch, target: &Option<Atom>, atoms: &[Atom]) -> Result<(), Memory>
+    requires atoms { AreOf work.old.base atoms.now }
+    requires target { AreOf work.old.base (failing target.now) }
+    ensures base { work.new.base ≡ work.old.base }
+    ensures state { OnOk result (work.new.present ≡ cut_all work.old.base (atoms.now ++ failing target.now)) }
 {
-    let mut state = initial.copy()?;
-    cut_by(&mut state, atoms)?;
-    cut_target(&mut state, target)?;
-    Ok(state)
+    work.reset();
+    cut_by(work, atoms)?;
+    cut_target(work, target)
 }
 
 /// The variable's set in the state cut by these atoms, and by the negation of the target.
@@ -154,27 +157,29 @@ fn meeting(set: &Dom, var: VarId, atoms: &[Atom]) -> Result<Dom, Memory>
     set.without(&refuted)
 }
 
-/// Cuts the state by the negation of the target, where there is one.
-fn cut_target(state: &mut State, target: &Option<Atom>) -> Result<(), Memory>
-    requires { AreOf state.old (failing target.now) }
-    ensures { OnOk result (state.new ≡ cut_all state.old (failing target.now)) }
+/// Cuts the present state by the negation of the target, where there is one.
+fn cut_target(work: &mut Scratch, target: &Option<Atom>) -> Result<(), Memory>
+    requires { AreOf work.old.present (failing target.now) }
+    ensures base { work.new.base ≡ work.old.base }
+    ensures state { OnOk result (work.new.present ≡ cut_all work.old.present (failing target.now)) }
 {
     match target {
         Some(atom) => {
-            state.exclude(atom.negated())?;
+            work.exclude(atom.negated())?;
             Ok(())
         }
         None => Ok(()),
     }
 }
 
-/// Cuts the state by each of the atoms.
-fn cut_by(state: &mut State, atoms: &[Atom]) -> Result<(), Memory>
-    requires { AreOf state.old atoms.now }
-    ensures { OnOk result (state.new ≡ cut_all state.old atoms.now) }
+/// Cuts the present state by each of the atoms.
+fn cut_by(work: &mut Scratch, atoms: &[Atom]) -> Result<(), Memory>
+    requires { AreOf work.old.present atoms.now }
+    ensures base { work.new.base ≡ work.old.base }
+    ensures state { OnOk result (work.new.present ≡ cut_all work.old.present atoms.now) }
 {
     for atom in atoms {
-        state.exclude(*atom)?;
+        work.exclude(*atom)?;
     }
     Ok(())
 }

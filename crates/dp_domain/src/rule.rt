@@ -6,7 +6,7 @@ ghost use Rattle.dp_domain.specs.Faces.{Covers, Face, Fixes, IsLawful};
 ghost use Rattle.dp_domain.specs.States.{Domains, IsWithin, LiesIn, is_dead};
 ghost use Rattle.dp_domain.specs.Turns.{turn_of};
 
-use crate::{Atom, Found, Memory, State, Steps, VarId};
+use crate::{Atom, Found, Memory, Scratch, State, Steps, VarId};
 use std::sync::ledger::Ledger;
 
 /// A part of a constraint: which assignments meet it, and a test that says where no assignment can.
@@ -65,9 +65,11 @@ pub trait Rule: Test {
 
     /// Why it clashes at the state `now` where the target fails, or at `now` itself where there is no
     /// target: atoms that hold at `now` and suffice at the initial state, of which none can be left out.
+    /// It may change what is present in the working state, which goes back to the initial state.
     fn explain(
         &self,
         initial: &State,
+        work: &mut Scratch,
         now: &State,
         target: Option<Atom>,
     ) -> Result<Vec<Atom>, Memory>
@@ -76,5 +78,7 @@ pub trait Rule: Test {
         requires within { IsWithin now.now initial.now }
         requires open { IsOpen now.now target }
         requires clash { suffices (Self.face self.now) now.now target [] ≡ true }
+        requires base { work.old.base ≡ initial.now }
+        ensures base { work.new.base ≡ initial.now }
         ensures explanation { IfOk result (λ atoms. atoms.items ≡ explanation (Self.face self.now) initial.now now.now target) };
 }

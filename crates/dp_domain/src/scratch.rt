@@ -2,7 +2,7 @@
 
 ghost use Rattle.std.specs.Prelude.{◌≡◌, ◌<◌, ◌++◌, ◌∷◌, [], not, length, slice_set, vec_len, vec_capacity, IfOk, OnErr, OnOk};
 ghost use Rattle.dp_base.specs.Lists.{Each};
-ghost use Rattle.dp_domain.specs.Scratches.{put_back, put_back_all};
+ghost use Rattle.dp_domain.specs.Scratches.{ends_with, put_back, put_back_all};
 ghost use Rattle.dp_domain.specs.States.{cut, entails, refuted, values};
 
 use crate::{Atom, Dom, Memory, State, VarId};
@@ -84,6 +84,16 @@ impl Scratch {
         change(&mut self.replaced, &mut self.present, var, set)
     }
 
+    /// Gives the variable another set. Want of memory leaves all as it was.
+    pub(crate) fn replace(&mut self, var: VarId, set: Dom) -> Result<(), Memory>
+        requires { var < length self.old.present }
+        ensures base { self.new.base ≡ self.old.base }
+        ensures present { OnOk result (self.new.present ≡ slice_set self.old.present var set) }
+        ensures err { OnErr result (self.new ≡ self.old) }
+    {
+        change(&mut self.replaced, &mut self.present, var, set)
+    }
+
     /// Goes back to the state that it began as.
     pub fn reset(&mut self)
         ensures base { self.new.base ≡ self.old.base }
@@ -93,7 +103,8 @@ impl Scratch {
     }
 }
 
-/// Gives the variable another set, and keeps the one that it had. Want of memory leaves all as it was.
+/// Gives the variable another set, and keeps the one that it had, unless the last that was kept is of
+/// that variable too. Want of memory leaves all as it was.
 fn change(
     replaced: &mut Vec<Replaced>,
     present: &mut State,
@@ -108,10 +119,24 @@ fn change(
     ensures state { OnErr result (present.new ≡ present.old) }
     ensures list { OnErr result (replaced.new.items ≡ replaced.old.items) }
 {
+    if ends_with(replaced, var) {
+        present.replace(var, set);
+        return Ok(());
+    }
     replaced.reserve(1)?;
     let set = present.replace(var, set);
     push_reserved(replaced, Replaced { var, set });
     Ok(())
+}
+
+/// Whether the last set that was kept is of the variable.
+fn ends_with(replaced: &Vec<Replaced>, var: VarId) -> bool
+    ensures { result ≡ ends_with var replaced.now.items }
+{
+    match replaced.last() {
+        Some(last) => last.var == var,
+        None => false,
+    }
 }
 
 /// Adds an item for which there is room.

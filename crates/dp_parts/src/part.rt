@@ -5,7 +5,7 @@ ghost use Rattle.dp_domain.specs.Faces.{Covers};
 ghost use Rattle.dp_parts.specs.Parts.{ClashesPart, MeetsPart, face_of, label_of};
 ghost use Rattle.dp_parts.specs.PartLaws.{part_deciding, part_exact, part_lawful, part_sound};
 
-use dp_domain::{Atom, Found, Memory, Rule, State, Steps, Test, VarId};
+use dp_domain::{Atom, Found, Memory, Rule, Scratch, State, Steps, Test, VarId};
 use dp_rule_alldiff::AllDiff;
 use dp_rule_clause::{Nogood, Within};
 use dp_rule_cumulative::Cumulative;
@@ -110,17 +110,18 @@ impl Rule for Part {
     fn explain(
         &self,
         initial: &State,
+        work: &mut Scratch,
         now: &State,
         target: Option<Atom>,
     ) -> Result<Vec<Atom>, Memory> {
         match self {
-            Part::LinLe(part) => part.explain(initial, now, target),
-            Part::LinNe(part) => part.explain(initial, now, target),
-            Part::Nogood(part) => part.explain(initial, now, target),
-            Part::Within(part) => part.explain(initial, now, target),
-            Part::Element(part) => part.explain(initial, now, target),
-            Part::Cumulative(part) => part.explain(initial, now, target),
-            Part::AllDiff(part) => part.explain(initial, now, target),
+            Part::LinLe(part) => part.explain(initial, work, now, target),
+            Part::LinNe(part) => part.explain(initial, work, now, target),
+            Part::Nogood(part) => part.explain(initial, work, now, target),
+            Part::Within(part) => part.explain(initial, work, now, target),
+            Part::Element(part) => part.explain(initial, work, now, target),
+            Part::Cumulative(part) => part.explain(initial, work, now, target),
+            Part::AllDiff(part) => part.explain(initial, work, now, target),
         }
     }
 }

@@ -5,7 +5,7 @@ ghost use Rattle.dp_rule_alldiff.specs.AllDifferent.{ClashesAllDifferent, MeetsA
 ghost use Rattle.dp_rule_alldiff.specs.AllDifferentLaws.{all_different_deciding, all_different_exact, all_different_lawful, all_different_sound};
 
 use crate::{Atom, Found, Memory, Rule, State, Steps, Term, Test, VarId, once, spans, turn};
-use dp_domain::{search_explanation, search_turn, term_scope};
+use dp_domain::{Scratch, search_explanation, search_turn, term_scope};
 use std::alloc::Global;
 use std::marker::Model;
 use std::sync::ledger::Ledger;
@@ -101,9 +101,10 @@ impl Rule for AllDiff {
     fn explain(
         &self,
         initial: &State,
+        work: &mut Scratch,
         now: &State,
         target: Option<Atom>,
     ) -> Result<Vec<Atom>, Memory> {
-        search_explanation(self, initial, now, target)
+        search_explanation(self, initial, work, now, target)
     }
 }

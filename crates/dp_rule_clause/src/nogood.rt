@@ -7,6 +7,7 @@ ghost use Rattle.dp_rule_clause.specs.NogoodLaws.{nogood_deciding, nogood_exact,
 ghost use Rattle.dp_rule_clause.specs.Nogoods.{ClashesNogood, IsOnce, MeetsNogood, each_once, face_nogood};
 
 use crate::{Atom, Found, Memory, Rule, State, Steps, Test, VarId, atoms, reasons, turns};
+use dp_domain::Scratch;
 use smallvec::SmallVec;
 use std::alloc::Global;
 use std::marker::Model;
@@ -98,6 +99,7 @@ impl Rule for Nogood {
     fn explain(
         &self,
         initial: &State,
+        _work: &mut Scratch,
         now: &State,
         target: Option<Atom>,
     ) -> Result<Vec<Atom>, Memory> {

@@ -8,6 +8,7 @@ ghost use Rattle.dp_rule_clause.specs.RestrictionLaws.{within_deciding, within_e
 ghost use Rattle.dp_rule_clause.specs.Restrictions.{ClashesWithin, MeetsWithin, Restriction, face_within, scope_of};
 
 use crate::{Atom, Dom, Found, Memory, Rule, State, Steps, Test, VarId, reasons, turns};
+use dp_domain::Scratch;
 use std::marker::Model;
 use std::sync::ledger::Ledger;
 use thiserror::Error;
@@ -157,6 +158,7 @@ impl Rule for Within {
     fn explain(
         &self,
         initial: &State,
+        _work: &mut Scratch,
         now: &State,
         target: Option<Atom>,
     ) -> Result<Vec<Atom>, Memory> {

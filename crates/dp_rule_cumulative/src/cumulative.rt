@@ -9,7 +9,7 @@ ghost use Rattle.dp_rule_cumulative.specs.TimeTableLaws.{cumulative_deciding, cu
 use crate::profile::{is_exceeded, parts_of};
 use crate::turn::{turn, variable_count};
 use crate::{Atom, Found, Memory, Rule, State, Steps, Task, TaskRefusal, Term, Test, VarId, given};
-use dp_domain::{search_explanation, search_turn, term_scope};
+use dp_domain::{Scratch, search_explanation, search_turn, term_scope};
 use std::alloc::Global;
 use std::marker::Model;
 use std::sync::ledger::Ledger;
@@ -123,9 +123,10 @@ impl Rule for Cumulative {
     fn explain(
         &self,
         initial: &State,
+        work: &mut Scratch,
         now: &State,
         target: Option<Atom>,
     ) -> Result<Vec<Atom>, Memory> {
-        search_explanation(self, initial, now, target)
+        search_explanation(self, initial, work, now, target)
     }
 }

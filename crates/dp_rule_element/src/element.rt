@@ -5,7 +5,7 @@ ghost use Rattle.dp_rule_element.specs.SelectionLaws.{element_deciding, element_
 ghost use Rattle.dp_rule_element.specs.Selections.{ClashesElement, MeetsElement, face_element};
 
 use crate::{Atom, Found, Memory, Rule, State, Steps, Term, Test, VarId, entries, places, turn};
-use dp_domain::{search_explanation, search_turn, term_scope};
+use dp_domain::{Scratch, search_explanation, search_turn, term_scope};
 use std::alloc::Global;
 use std::marker::Model;
 use std::sync::ledger::Ledger;
@@ -122,9 +122,10 @@ impl Rule for Element {
     fn explain(
         &self,
         initial: &State,
+        work: &mut Scratch,
         now: &State,
         target: Option<Atom>,
     ) -> Result<Vec<Atom>, Memory> {
-        search_explanation(self, initial, now, target)
+        search_explanation(self, initial, work, now, target)
     }
 }

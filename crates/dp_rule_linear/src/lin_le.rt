@@ -15,7 +15,7 @@ use crate::condition::condition_bound;
 use crate::form::Form;
 use crate::turn::found;
 use crate::{Atom, Found, LinRefusal, Memory, Rule, State, Steps, Test, VarId};
-use dp_domain::search_explanation;
+use dp_domain::{Scratch, search_explanation};
 use std::marker::Model;
 use std::sync::ledger::Ledger;
 
@@ -151,9 +151,10 @@ impl Rule for LinLe {
     fn explain(
         &self,
         initial: &State,
+        work: &mut Scratch,
         now: &State,
         target: Option<Atom>,
     ) -> Result<Vec<Atom>, Memory> {
-        search_explanation(self, initial, now, target)
+        search_explanation(self, initial, work, now, target)
     }
 }

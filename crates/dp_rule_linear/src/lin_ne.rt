@@ -16,7 +16,7 @@ use crate::sums::{first_open, least_product};
 use crate::turn::found;
 use crate::unequal::unequal_atom;
 use crate::{Atom, Found, LinRefusal, Memory, Rule, State, Steps, Test, VarId};
-use dp_domain::search_explanation;
+use dp_domain::{Scratch, search_explanation};
 use std::marker::Model;
 use std::sync::ledger::Ledger;
 
@@ -173,9 +173,10 @@ impl Rule for LinNe {
     fn explain(
         &self,
         initial: &State,
+        work: &mut Scratch,
         now: &State,
         target: Option<Atom>,
     ) -> Result<Vec<Atom>, Memory> {
-        search_explanation(self, initial, now, target)
+        search_explanation(self, initial, work, now, target)
     }
 }

@@ -6,7 +6,7 @@ ghost use Rattle.dp_domain.specs.Faces.{Covers};
 ghost use Rattle.dp_domain.specs.States.{IsWithin, is_dead};
 ghost use Rattle.dp_domain.specs.Turns.{turn_of};
 
-use dp_domain::{Atom, Found, Memory, Rule, State, Steps, Test, VarId};
+use dp_domain::{Atom, Found, Memory, Rule, Scratch, State, Steps, Test, VarId};
 use std::marker::Brand;
 use std::sync::ledger::{Blank, Ledger};
 
@@ -101,7 +101,8 @@ pub fn explanation_at<R: Rule>(
     if !follows(rule, now, &target)? {
         return Ok(None);
     }
-    Ok(Some(rule.explain(initial, now, target)?))
+    let mut work = Scratch::new(initial.copy()?);
+    Ok(Some(rule.explain(initial, &mut work, now, target)?))
 }
 
 // Whether the state does not entail the target.

@@ -5,6 +5,7 @@ use Rattle.dp_domain.proofs.explanation.cut_by.Given as goal
 -- the cuts that are left lead to where all lead
 abbrev pub invariant-loop-atom : goal.invariant-loop-atom
 invariant-loop-atom l = record {
-  cuts : cut_all l.state (drop l.atom-index l.atoms) ≡ cut_all l.initial.state l.atoms;
-  count : length l.state ≡ length l.initial.state;
+  base : l.work.base ≡ l.initial.work.base;
+  cuts : cut_all l.work.present (drop l.atom-index l.atoms) ≡ cut_all l.initial.work.present l.atoms;
+  count : length l.work.present ≡ length l.initial.work.present;
 }

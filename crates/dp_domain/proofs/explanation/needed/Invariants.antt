@@ -7,5 +7,6 @@ use Rattle.dp_domain.proofs.explanation.needed.Given as goal
 abbrev pub invariant-loop-place : goal.invariant-loop-place
 invariant-loop-place g l = record {
   same : needed (g.R.Test.face l.rule) l.fn.initial l.target l.kept.items (drop l.place l.atoms) ≡ needed (g.R.Test.face l.rule) l.fn.initial l.target [] l.atoms;
-  state : l.state ≡ cut_all l.fn.initial ((l.kept.items ++ drop l.place l.atoms) ++ failing l.target);
+  base : l.work.base ≡ l.fn.initial;
+  state : l.work.present ≡ cut_all l.fn.initial ((l.kept.items ++ drop l.place l.atoms) ++ failing l.target);
 }

@@ -18,4 +18,4 @@ returns-clause-meaning g c =
     IfOk-weaker c.needed.result (λ kept. kept.items ≡ needed (g.R.Test.face c.args.rule.now) c.args.initial.now c.args.target [] c.as_slice-2.result.now) (λ atoms. Explains (g.R.Test.face c.args.rule.now) c.args.initial.now c.args.now.now c.args.target atoms.items)
     (λ kept e. subst (Explains (g.R.Test.face c.args.rule.now) c.args.initial.now c.args.now.now c.args.target) (sym e)
     (explanation-explains (g.R.Test.face c.args.rule.now) c.args.initial.now c.args.now.now c.args.target c.as_slice-2.result.now (g.met.R.Test.lawful c.args.rule.now) c.requires.covers c.requires.alive c.requires.within c.requires.open c.requires.clash s))
-    c.needed.ensures
+    c.needed.ensures.kept

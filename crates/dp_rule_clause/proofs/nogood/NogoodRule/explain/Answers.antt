@@ -11,6 +11,7 @@ use Rattle.dp_rule_clause.proofs.nogood.NogoodRule.explain.Goals as goal
 
 pub returns : goal.returns
 returns c = record {
+  base = c.requires.base;
   explanation = ok_both c.nogood_reasons.result
       (λ why. why.items ≡ flat_map (reasons_on (λ x. fails_one x c.as_slice-atoms.result.now) c.args.target c.args.initial.now c.args.now.now) c.as_slice-scope.result.now)
       (λ why. AreDomains c.args.initial.now c.as_slice-scope.result.now)

@@ -12,6 +12,7 @@ pub returns : goal.returns
 returns c =
     let p : Restriction = record { condition = c.self.inside.cond; var = c.self.inside.var; set = c.self.inside.set } in
     record {
+      base = c.requires.base;
       explanation = ok_both c.restriction_reasons.result
           (λ why. why.items ≡ flat_map (reasons_on (escapes p) c.args.target c.args.initial.now c.args.now.now) (scope_of p))
           (λ why. AreDomains c.args.initial.now (scope_of p))
