@@ -14,7 +14,7 @@ use crate::explain::explain;
 use crate::gone::{enter, leave, nothing, takes_one};
 use crate::turns::RunTurn;
 use crate::{Atoms, Kept};
-use dp_domain::{Atom, Dom, Memory, State};
+use dp_domain::{Atom, Dom, Memory, Scratch, State};
 use dp_engine::Engine;
 use dp_parts::Problem;
 use dp_rule_clause::Nogood;
@@ -34,9 +34,17 @@ pub(crate) fn kept_turns(
     let initial = problem.initial();
     let mut gone = nothing(initial.allocator(), initial.len())?;
     let mut steps = Vec::new(initial.allocator());
+    let mut work = Scratch::new(initial.copy()?);
     while let Some(turn) = turns.pop() {
         engine.undo(turn.mark);
-        let step = keep(problem, nogoods, &mut gone, engine.state(), &turn)?;
+        let step = keep(
+            problem,
+            nogoods,
+            &mut gone,
+            &mut work,
+            engine.state(),
+            &turn,
+        )?;
         push_some(&mut steps, step)?;
     }
     steps.reverse();
@@ -59,11 +67,14 @@ fn keep(
     problem: &Problem,
     nogoods: &[Nogood],
     gone: &mut Vec<Dom>,
+    work: &mut Scratch,
     before: &State,
     turn: &RunTurn,
 ) -> Result<Option<Kept>, Memory>
     requires turn { IsRunTurn (posed problem.now) nogoods.now (seen_at before.now turn.now) }
     requires count { length gone.old.items ≡ length problem.now.initial }
+    requires base { work.old.base ≡ problem.now.initial }
+    ensures base { work.new.base ≡ problem.now.initial }
     ensures count { length gone.new.items ≡ length gone.old.items }
     ensures kept { IfOk result (λ step. step ≡ kept_step (pairs_of gone.old.items) (explained_of (posed problem.now) nogoods.now (seen_at before.now turn.now))) }
     ensures pairs { OnOk result ((x : ℕ) → (v : ℤ) → pairs_of gone.new.items x v ≡ before_turn problem.now.initial (pairs_of gone.old.items) (explained_of (posed problem.now) nogoods.now (seen_at before.now turn.now)) x v) }
@@ -71,7 +82,7 @@ fn keep(
     if !is_kept(gone.as_slice(), before, turn.target)? {
         return Ok(None);
     }
-    let premises = explain(problem, nogoods, before, turn)?;
+    let premises = explain(problem, nogoods, work, before, turn)?;
     take_out(gone, turn.target)?;
     enter(gone, problem.initial(), premises.as_slice())?;
     Ok(Some(Kept {

@@ -43,6 +43,7 @@ loop-turn-preserved c =
     let back = seen-back c.loop-turn.engine c.loop-turn.turns.items c.pop.new.self.items c.in-Some.turn c.in-Some.ensures.items c.loop-turn.invariant.trail c.undo.new.self c.undo.ensures.states in
     record {
       count = c.in_ok-step.ensures.count ∙ c.loop-turn.invariant.count;
+      base = c.keep.ensures.base;
       trail = trail-back c.loop-turn.engine c.loop-turn.turns.items c.pop.new.self.items c.in-Some.turn c.in-Some.ensures.items c.loop-turn.invariant.trail c.undo.new.self c.undo.ensures.states;
       turns = (turns_back (posed c.args.problem.now) c.args.nogoods.now c.loop-turn.engine c.undo.new.self c.loop-turn.turns.items c.pop.new.self.items c.in-Some.turn c.state.result.now c.state.ensures.state
           back c.loop-turn.invariant.turns).0;

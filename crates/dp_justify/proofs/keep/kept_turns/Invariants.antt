@@ -9,6 +9,7 @@ use Rattle.dp_justify.proofs.keep.kept_turns.Given as goal
 abbrev pub invariant-loop-turn : goal.invariant-loop-turn
 invariant-loop-turn l = record {
   count : length l.gone.items ≡ length l.problem.initial;
+  base : l.work.base ≡ l.problem.initial;
   trail : IsTrail (states l.engine) l.turns.items;
   turns : Each (IsRunTurn (posed l.problem) l.nogoods) (map (seen_among (states l.engine)) l.turns.items);
   back : IsBack l.problem.initial (map (explained_of (posed l.problem) l.nogoods) (map (seen_among (states l.initial.engine)) l.initial.turns.items))
