@@ -1,22 +1,23 @@
--- Steps of the bisection for a bound: the test is monotone, so one value decides for all on one side.
-use Rattle.std.proofs.Common.{◌≡◌, ℕ, zero, suc, ◌+◌, ◌-◌, ◌<◌, ◌≤◌, true, false, ◌⊎◌, List, length, get_or, ℤ, pos, ◌+ℤ◌, ◌-ℤ◌, ◌≤ℤ◌, ◌<ℤ◌, Some, None, refl, sym, ◌∙◌, ap, subst, inl, inr, arith}
+-- Steps of the bisection for a bound: the test is monotone, so one number decides for all on one side.
+use Rattle.std.proofs.Common.{◌≡◌, ℕ, zero, suc, ◌+◌, ◌-◌, ◌<◌, ◌≤◌, true, false, Bool, ◌⊎◌, List, [], ◌∷◌, length, ℤ, pos, int_le, ◌+ℤ◌, ◌-ℤ◌, ◌≤ℤ◌, ◌<ℤ◌, Option, Some, None, option_map, is_some, refl, sym, ◌∙◌, ap, subst, inl, inr, arith}
+use Rattle.std.specs.Prelude.{◌/◌}
 use mir.Syntax.{w64}
 use mir.Val.{of_z, to_z}
-use Rattle.std.specs.Prelude.{◌/◌}
+use Rattle.std.specs.List.{filter}
 use Rattle.std.proofs.lemmas.Int.{ints}
-use Rattle.std.proofs.lemmas.Bool.{both_ways, cases_lt, false_from_ne_true}
+use Rattle.std.proofs.lemmas.Bool.{both_ways, cases_Bool, false_from_ne_true, false≢true}
 use Rattle.dp_base.specs.Lists.{Among}
-use Rattle.dp_base.proofs.Lists.{Among-filter_all, Among-get_or, Each-get_or}
+use Rattle.dp_base.proofs.Lists.{Among-filter_all, Among-filter_only}
 use Rattle.dp_domain.specs.Atoms.{Atomic, negated}
-use Rattle.dp_domain.specs.Sets.{IsAscending, IsDomain, IsSmall}
+use Rattle.dp_domain.specs.Sets.{AreBounds, IsSmall, greatest, least}
 use Rattle.dp_domain.specs.States.{Domains, cut, entails, values}
 use Rattle.dp_domain.specs.Faces.{Face, Covers, IsLawful}
-use Rattle.dp_domain.specs.Turns.{IsFirstUpper, IsLastLower, at_least, at_most, gives, new_lower, new_upper}
-use Rattle.dp_domain.proofs.AtomLaws.{le-from_test, test-from_le, test-from_lt}
+use Rattle.dp_domain.specs.Turns.{at_least, at_most, gives, new_lower, new_upper}
+use Rattle.dp_domain.proofs.AtomLaws.{le-from_test, lt-from_test, test-from_le, test-from_lt}
 use Rattle.dp_domain.proofs.ScopeLaws.{Covers-cut}
-use Rattle.dp_domain.proofs.StateLaws.{Among-cut_meets, IsWithin-cut, IsWithin-into_cut, entails-from, entails-not}
-use Rattle.dp_domain.proofs.TurnLaws.{gives-from, gives-parts}
-use Rattle.dp_domain.proofs.TurnSteps.{ascending-places, lower_found, lower_none, passed, place_of, places_le, upper_found, upper_none}
+use Rattle.dp_domain.proofs.SetLaws.{IsSmall-among, greatest-among, greatest-bound, greatest-is, least-among, least-bound, least-is}
+use Rattle.dp_domain.proofs.StateLaws.{Among-cut_meets, IsWithin-cut, IsWithin-into_cut, entails-from, entails-not, is_nil-none, nil-from_test}
+use Rattle.dp_domain.proofs.TurnLaws.{gives-from, gives-parts, lower-lands, upper-lands}
 
 -- ---- one value decides
 
@@ -38,149 +39,213 @@ upper_up f d x u v w l c h k m g =
     (entails-from (cut d (negated (at_most x v))) (negated (at_most x w)) (λ n i. let j = le-from_test (v +ℤ pos 1) n (Among-cut_meets d (negated (at_most x v)) n i) in test-from_le (w +ℤ pos 1) n (omega (arith, ints))))
     g
 
-abbrev at : List ℤ → ℕ → ℤ
-at xs k = get_or xs k (pos 0)
+-- ---- the two numbers between which the bound is
 
-value_at : (d : Domains) (x : ℕ) (xs : List ℤ) (k : ℕ) → xs ≡ values d x → k < length xs → Among (at xs k) (values d x)
-value_at d x xs k e h = subst (λ ys. Among (at xs k) ys) e (Among-get_or xs k (pos 0) h)
+-- a number below which no value passes, where one passes
+under : (p : ℤ → Bool) (v h : ℤ) → p v ≡ true → (h ≤ℤ v → p v ≡ false) → v <ℤ h
+under p v h t n = elim (cases_Bool (int_le h v)) [ inl e ↦ absurd (both_ways (p v) (n (le-from_test h v e)) t) | inr e ↦ lt-from_test h v e ]
 
-place_at : (xs : List ℤ) (v : ℤ) → Among v xs → (k : ℕ) × (k < length xs) × (at xs k ≡ v)
-place_at xs v h = let r = place_of (λ w. true) xs v (pos 0) (Among-filter_all (λ w. true) xs v h refl) in (r.0, r.1, r.2)
+-- a number above which no value passes, where one passes
+over : (p : ℤ → Bool) (v h : ℤ) → p v ≡ true → (v ≤ℤ h → p v ≡ false) → h <ℤ v
+over p v h t n = elim (cases_Bool (int_le v h)) [ inl e ↦ absurd (both_ways (p v) (n (le-from_test v h e)) t) | inr e ↦ lt-from_test v h e ]
 
--- the first value is no new lower bound
-first_lower : (f : Face) (d : Domains) (x : ℕ) (xs : List ℤ) → xs ≡ values d x → IsAscending xs → gives f d (at_least x (at xs 0)) ≡ false
-first_lower f d x xs e a = false_from_ne_true (gives f d (at_least x (at xs 0))) (λ t.
-    both_ways (entails d (at_least x (at xs 0))) (gives-parts f d (at_least x (at xs 0)) t).0
-    (entails-from d (at_least x (at xs 0)) (λ v h.
-    let r = place_at xs v (subst (λ ys. Among v ys) (sym e) h) in
-    test-from_le (at xs 0) v (subst (λ (w : ℤ). at xs 0 ≤ℤ w) r.2 (places_le xs a 0 r.0 (pos 0) (omega arith) r.1)))))
+no_values : (xs : List ℤ) → least xs ≡ None → xs ≡ []
+no_values [] e = refl
+no_values (x ∷ xs) e = absurd (false≢true (sym (ap is_some e)))
 
--- the last value is no new upper bound
-last_upper : (f : Face) (d : Domains) (x : ℕ) (xs : List ℤ) (i : ℕ) → xs ≡ values d x → IsAscending xs → i < length xs → length xs ≤ i + 1 → gives f d (at_most x (at xs i)) ≡ false
-last_upper f d x xs i e a h l = false_from_ne_true (gives f d (at_most x (at xs i))) (λ t.
-    both_ways (entails d (at_most x (at xs i))) (gives-parts f d (at_most x (at xs i)) t).0
-    (entails-from d (at_most x (at xs i)) (λ v m.
-    let r = place_at xs v (subst (λ ys. Among v ys) (sym e) m) in
-    let k = r.1 in
-    test-from_le v (at xs i) (subst (λ (w : ℤ). w ≤ℤ at xs i) r.2 (places_le xs a r.0 i (pos 0) (omega arith) h)))))
+-- the least value and the greatest are values, and are small
+first_among : (xs : List ℤ) (first last : ℤ) → AreBounds xs first last → Among first xs
+first_among xs first last b = least-among xs first b.least
 
--- ---- the two places between which the bound is
+last_among : (xs : List ℤ) (first last : ℤ) → AreBounds xs first last → Among last xs
+last_among xs first last b = greatest-among xs last b.greatest
 
--- no value from the later place on is a new lower bound that follows, and the one at the earlier is one, or is the first of all
-pub record IsLowerBracket (f : Face) (d : Domains) (x : ℕ) (xs : List ℤ) (low high : ℕ) : Type 0 where
-  pub order : low ≤ high
-  pub within : high ≤ length xs
-  pub given : (low ≡ 0) ⊎ ((low < length xs) × (gives f d (at_least x (get_or xs low (pos 0))) ≡ true))
-  pub none : (k : ℕ) → high ≤ k → k < length xs → gives f d (at_least x (get_or xs k (pos 0))) ≡ false
+pub bounds-small : (xs : List ℤ) (first last : ℤ) → AreBounds xs first last → IsSmall first × IsSmall last
+bounds-small xs first last b = (IsSmall-among xs b.domain first (first_among xs first last b), IsSmall-among xs b.domain last (last_among xs first last b))
 
-pub lower_begun : (f : Face) (d : Domains) (x : ℕ) (xs : List ℤ) (low high : ℕ) → low ≡ 0 → high ≡ length xs → IsLowerBracket f d x xs low high
-lower_begun f d x xs low high e h = record { order = omega arith; within = omega arith; given = inl e; none = λ k l m. absurd (omega arith) }
+pub bounds-order : (xs : List ℤ) (first last : ℤ) → AreBounds xs first last → first ≤ℤ last
+bounds-order xs first last b = least-bound xs first b.least last (last_among xs first last b)
 
-pub lower_more : (f : Face) (d : Domains) (x : ℕ) (xs : List ℤ) (low high middle : ℕ) (v : ℤ) (a : Atomic) → IsLowerBracket f d x xs low high → low < middle → middle < high → a ≡ at_least x v → v ≡ get_or xs middle (pos 0) → gives f d a ≡ true → IsLowerBracket f d x xs middle high
-lower_more f d x xs low high middle v a b h k e g t =
+-- a small number as the code passes it
+pub passed_small : (v : ℤ) → IsSmall v → to_z w64 (of_z w64 v) ≡ v
+passed_small v s = omega (arith, ints, s.0, s.1)
+
+pub small_passed : (v : ℤ) → IsSmall v → IsSmall (to_z w64 (of_z w64 v))
+small_passed v s = subst IsSmall (sym (passed_small v s)) s
+
+pub bounds_passed : (xs : List ℤ) (first last : ℤ) → AreBounds xs first last → AreBounds xs (to_z w64 (of_z w64 first)) (to_z w64 (of_z w64 last))
+bounds_passed xs first last b =
+    let s = bounds-small xs first last b in
+    record { domain = b.domain; least = b.least ∙ ap Some (sym (passed_small first s.0)); greatest = b.greatest ∙ ap Some (sym (passed_small last s.1)) }
+
+-- no value from the higher number on is a new lower bound that follows, and the lower number is one, or is the least value
+pub record IsLowerBracket (f : Face) (d : Domains) (x : ℕ) (first last : ℤ) (low high : ℕ) : Type 0 where
+  pub order : low < high
+  pub within : (first +ℤ pos high) ≤ℤ (last +ℤ pos 1)
+  pub given : (low ≡ 0) ⊎ (gives f d (at_least x (first +ℤ pos low)) ≡ true)
+  pub none : (v : ℤ) → (first +ℤ pos high) ≤ℤ v → Among v (values d x) → gives f d (at_least x v) ≡ false
+
+pub lower_begun : (f : Face) (d : Domains) (x : ℕ) (first last : ℤ) (n low high : ℕ) → AreBounds (values d x) first last → (first +ℤ pos n) ≡ last → low ≡ 0 → high ≡ n + 1 → IsLowerBracket f d x first last low high
+lower_begun f d x first last n low high b e l h = record {
+  order = omega arith;
+  within = omega (arith, ints, e, h);
+  given = inl l;
+  none = λ v k m. let o = greatest-bound (values d x) last b.greatest v m in absurd (omega (arith, ints, e, h, k, o));
+}
+
+-- a number between the two, as far as the code computes it, is small
+pub lower_small : (f : Face) (d : Domains) (x : ℕ) (first last : ℤ) (low high middle : ℕ) → AreBounds (values d x) first last → IsLowerBracket f d x first last low high → middle < high → IsSmall (first +ℤ pos middle)
+lower_small f d x first last low high middle b k h =
+    let s = bounds-small (values d x) first last b in
+    let w = k.within in
+    (omega (arith, ints, s.0.0), omega (arith, ints, s.1.1, w, h))
+
+pub lower_more : (f : Face) (d : Domains) (x : ℕ) (first last : ℤ) (low high middle : ℕ) (v : ℤ) (a : Atomic) → IsLowerBracket f d x first last low high → middle < high → a ≡ at_least x v → v ≡ (first +ℤ pos middle) → gives f d a ≡ true → IsLowerBracket f d x first last middle high
+lower_more f d x first last low high middle v a b k e g t =
+    record { order = k; within = b.within; given = inr (subst (λ c. gives f d c ≡ true) (e ∙ ap (at_least x) g) t); none = b.none }
+
+pub lower_less : (f : Face) (d : Domains) (x : ℕ) (first last : ℤ) (low high middle : ℕ) (v : ℤ) (a : Atomic) → IsLawful f → Covers f.scope d → AreBounds (values d x) first last → IsLowerBracket f d x first last low high → low < middle → middle < high → a ≡ at_least x v → v ≡ (first +ℤ pos middle) → gives f d a ≡ false → IsLowerBracket f d x first last low middle
+lower_less f d x first last low high middle v a l c q b h k e g t =
+    let n : gives f d (at_least x (first +ℤ pos middle)) ≡ false = subst (λ c. gives f d c ≡ false) (e ∙ ap (at_least x) g) t in
     let w = b.within in
-    record { order = omega arith; within = b.within; given = inr (omega arith, subst (λ c. gives f d c ≡ true) (e ∙ ap (at_least x) g) t); none = b.none }
-
-pub lower_less : (f : Face) (d : Domains) (x : ℕ) (xs : List ℤ) (low high middle : ℕ) (v : ℤ) (a : Atomic) → IsLawful f → Covers f.scope d → xs ≡ values d x → IsDomain xs → IsLowerBracket f d x xs low high → low < middle → middle < high → a ≡ at_least x v → v ≡ get_or xs middle (pos 0) → gives f d a ≡ false → IsLowerBracket f d x xs low middle
-lower_less f d x xs low high middle v a l c q s b h k e g t =
-    let w = b.within in
-    let n : gives f d (at_least x (at xs middle)) ≡ false = subst (λ c. gives f d c ≡ false) (e ∙ ap (at_least x) g) t in
     record {
-      order = omega arith;
-      within = omega arith;
+      order = h;
+      within = omega (arith, ints, w, k);
       given = b.given;
-      none = λ j i m. false_from_ne_true (gives f d (at_least x (at xs j))) (λ y. both_ways (gives f d (at_least x (at xs middle))) n
-          (lower_down f d x (at xs 0) (at xs middle) (at xs j) l c (value_at d x xs 0 q (omega arith)) (ascending-places xs s.ascending 0 middle (pos 0) (omega arith) (omega arith)) (places_le xs s.ascending middle j (pos 0) i m) y));
+      none = λ u i m. false_from_ne_true (gives f d (at_least x u)) (λ y. both_ways (gives f d (at_least x (first +ℤ pos middle))) n
+          (lower_down f d x first (first +ℤ pos middle) u l c (first_among (values d x) first last q) (omega (arith, ints, h)) i y));
     }
 
-pub lower_done : (f : Face) (d : Domains) (x : ℕ) (xs : List ℤ) (low high : ℕ) → IsLowerBracket f d x xs low high → high ≤ low + 1 → IsLastLower f d x xs low
-lower_done f d x xs low high b h = record { given = b.given; none = λ k l m. b.none k (omega arith) m }
+-- no value up to the lower number is a new upper bound that follows, and the higher number is one, or is the greatest value
+pub record IsUpperBracket (f : Face) (d : Domains) (x : ℕ) (first last : ℤ) (low high : ℕ) : Type 0 where
+  pub order : low < high
+  pub within : first ≤ℤ ((last -ℤ pos high) +ℤ pos 1)
+  pub given : (low ≡ 0) ⊎ (gives f d (at_most x (last -ℤ pos low)) ≡ true)
+  pub none : (v : ℤ) → v ≤ℤ (last -ℤ pos high) → Among v (values d x) → gives f d (at_most x v) ≡ false
 
--- no value before the earlier place is a new upper bound that follows, and the one at the later is one, or is the last of all
-pub record IsUpperBracket (f : Face) (d : Domains) (x : ℕ) (xs : List ℤ) (low high : ℕ) : Type 0 where
-  pub order : low ≤ high
-  pub within : (high ≡ 0) ⊎ (high < length xs)
-  pub given : (length xs ≤ high + 1) ⊎ (gives f d (at_most x (get_or xs high (pos 0))) ≡ true)
-  pub none : (k : ℕ) → k < low → k < length xs → gives f d (at_most x (get_or xs k (pos 0))) ≡ false
+pub upper_begun : (f : Face) (d : Domains) (x : ℕ) (first last : ℤ) (n low high : ℕ) → AreBounds (values d x) first last → (first +ℤ pos n) ≡ last → low ≡ 0 → high ≡ n + 1 → IsUpperBracket f d x first last low high
+upper_begun f d x first last n low high b e l h = record {
+  order = omega arith;
+  within = omega (arith, ints, e, h);
+  given = inl l;
+  none = λ v k m. let o = least-bound (values d x) first b.least v m in absurd (omega (arith, ints, e, h, k, o));
+}
 
--- a place before the later one has another after it
-pub inside : (low high n m : ℕ) → m < high → (high ≡ 0) ⊎ (high < n) → m + 1 < n
-inside low high n m h (inl e) = absurd (omega arith)
-inside low high n m h (inr l) = omega arith
+pub upper_small : (f : Face) (d : Domains) (x : ℕ) (first last : ℤ) (low high middle : ℕ) → AreBounds (values d x) first last → IsUpperBracket f d x first last low high → middle < high → IsSmall (last -ℤ pos middle)
+upper_small f d x first last low high middle b k h =
+    let s = bounds-small (values d x) first last b in
+    let w = k.within in
+    (omega (arith, ints, s.0.0, w, h), omega (arith, ints, s.1.1))
 
-pub upper_begun : (f : Face) (d : Domains) (x : ℕ) (xs : List ℤ) (low high : ℕ) → low ≡ 0 → high ≡ length xs - 1 → IsUpperBracket f d x xs low high
-upper_begun f d x xs low high e h = record { order = omega arith; within = by (length xs) high h; given = inl (omega arith); none = λ k l m. absurd (omega arith) }
-  where
-    by : (n high : ℕ) → high ≡ n - 1 → (high ≡ 0) ⊎ (high < n)
-    by zero high h = inl (omega arith)
-    by (suc n) high h = inr (omega arith)
+pub upper_less : (f : Face) (d : Domains) (x : ℕ) (first last : ℤ) (low high middle : ℕ) (v : ℤ) (a : Atomic) → IsUpperBracket f d x first last low high → middle < high → a ≡ at_most x v → v ≡ (last -ℤ pos middle) → gives f d a ≡ true → IsUpperBracket f d x first last middle high
+upper_less f d x first last low high middle v a b k e g t =
+    record { order = k; within = b.within; given = inr (subst (λ c. gives f d c ≡ true) (e ∙ ap (at_most x) g) t); none = b.none }
 
-pub upper_less : (f : Face) (d : Domains) (x : ℕ) (xs : List ℤ) (low high middle : ℕ) (v : ℤ) (a : Atomic) → IsUpperBracket f d x xs low high → low ≤ middle → middle < high → a ≡ at_most x v → v ≡ get_or xs middle (pos 0) → gives f d a ≡ true → IsUpperBracket f d x xs low middle
-upper_less f d x xs low high middle v a b h k e g t =
-    let i = inside low high (length xs) middle k b.within in
-    record { order = h; within = inr (omega arith); given = inr (subst (λ c. gives f d c ≡ true) (e ∙ ap (at_most x) g) t); none = b.none }
-
-pub upper_more : (f : Face) (d : Domains) (x : ℕ) (xs : List ℤ) (low high middle : ℕ) (v : ℤ) (a : Atomic) → IsLawful f → Covers f.scope d → xs ≡ values d x → IsDomain xs → IsUpperBracket f d x xs low high → low ≤ middle → middle < high → a ≡ at_most x v → v ≡ get_or xs middle (pos 0) → gives f d a ≡ false → IsUpperBracket f d x xs (middle + 1) high
-upper_more f d x xs low high middle v a l c q s b h k e g t =
-    let i = inside low high (length xs) middle k b.within in
-    let n : gives f d (at_most x (at xs middle)) ≡ false = subst (λ c. gives f d c ≡ false) (e ∙ ap (at_most x) g) t in
+pub upper_more : (f : Face) (d : Domains) (x : ℕ) (first last : ℤ) (low high middle : ℕ) (v : ℤ) (a : Atomic) → IsLawful f → Covers f.scope d → AreBounds (values d x) first last → IsUpperBracket f d x first last low high → low < middle → middle < high → a ≡ at_most x v → v ≡ (last -ℤ pos middle) → gives f d a ≡ false → IsUpperBracket f d x first last low middle
+upper_more f d x first last low high middle v a l c q b h k e g t =
+    let n : gives f d (at_most x (last -ℤ pos middle)) ≡ false = subst (λ c. gives f d c ≡ false) (e ∙ ap (at_most x) g) t in
+    let w = b.within in
     record {
-      order = omega arith;
-      within = b.within;
+      order = h;
+      within = omega (arith, ints, w, k);
       given = b.given;
-      none = λ j o m. false_from_ne_true (gives f d (at_most x (at xs j))) (λ y. both_ways (gives f d (at_most x (at xs middle))) n
-          (upper_up f d x (at xs (middle + 1)) (at xs middle) (at xs j) l c (value_at d x xs (middle + 1) q i) (ascending-places xs s.ascending middle (middle + 1) (pos 0) (omega arith) i) (places_le xs s.ascending j middle (pos 0) (omega arith) (omega arith)) y));
+      none = λ u i m. false_from_ne_true (gives f d (at_most x u)) (λ y. both_ways (gives f d (at_most x (last -ℤ pos middle))) n
+          (upper_up f d x last (last -ℤ pos middle) u l c (last_among (values d x) first last q) (omega (arith, ints, h)) i y));
     }
-
-pub upper_done : (f : Face) (d : Domains) (x : ℕ) (xs : List ℤ) (low high : ℕ) → IsUpperBracket f d x xs low high → high ≤ low → IsFirstUpper f d x xs high
-upper_done f d x xs low high b h = record { given = b.given; none = λ k l m. b.none k (omega arith) m }
 
 -- ---- the place in the middle
 
 pub middle_between : (low high : ℕ) → low + 1 < high → (low < low + (high - low) / 2) × (low + (high - low) / 2 < high)
 middle_between low high h = (omega arith, omega arith)
 
-pub middle_from : (low high : ℕ) → low < high → (low ≤ low + (high - low) / 2) × (low + (high - low) / 2 < high)
-middle_from low high h = (omega arith, omega arith)
-
 -- ---- what the bisections return
 
--- a place that is not the first has a value
-pub lower_within : (f : Face) (d : Domains) (x i : ℕ) (xs : List ℤ) → IsLastLower f d x xs i → 0 < i → i < length xs
-lower_within f d x i xs r n = by r.given
+-- a bound that is given is given at a value: no value lies between the two numbers
+lower_here : (f : Face) (d : Domains) (x : ℕ) (first last : ℤ) (low high : ℕ) → f.test d ≡ false → IsLowerBracket f d x first last low high → high ≤ low + 1 → gives f d (at_least x (first +ℤ pos low)) ≡ true → Among (first +ℤ pos low) (values d x)
+lower_here f d x first last low high q b h g =
+    let r = lower-lands f d x (first +ℤ pos low) q g in
+    let l = under (λ v. gives f d (at_least x v)) r.0 (first +ℤ pos high) r.3 (λ k. b.none r.0 k r.1) in
+    let k = r.2 in
+    let o = b.order in
+    let e : r.0 ≡ (first +ℤ pos low) = omega (arith, ints, l, k, h, o) in
+    subst (λ v. Among v (values d x)) e r.1
+
+lower_is : (f : Face) (d : Domains) (x : ℕ) (first last : ℤ) (low high : ℕ) → f.test d ≡ false → IsLowerBracket f d x first last low high → high ≤ low + 1 → gives f d (at_least x (first +ℤ pos low)) ≡ true → Some (at_least x (first +ℤ pos low)) ≡ new_lower f d x
+lower_is f d x first last low high q b h g =
+    sym (ap (option_map (at_least x)) (greatest-is (filter (λ v. gives f d (at_least x v)) (values d x)) (first +ℤ pos low)
+    (Among-filter_all (λ v. gives f d (at_least x v)) (values d x) (first +ℤ pos low) (lower_here f d x first last low high q b h g) g)
+    (λ v m.
+    let r = Among-filter_only (λ v. gives f d (at_least x v)) (values d x) v m in
+    let l = under (λ v. gives f d (at_least x v)) v (first +ℤ pos high) r.1 (λ k. b.none v k r.0) in
+    omega (arith, ints, l, h))))
+
+pub lower_at : (f : Face) (d : Domains) (x : ℕ) (first last : ℤ) (low high : ℕ) (v : ℤ) (a : Atomic) → f.test d ≡ false → IsLowerBracket f d x first last low high → high ≤ low + 1 → 0 < low → a ≡ at_least x v → v ≡ (first +ℤ pos low) → Some a ≡ new_lower f d x
+lower_at f d x first last low high v a q b h n e g = by b.given
   where
-    by : ((i ≡ 0) ⊎ ((i < length xs) × (gives f d (at_least x (at xs i)) ≡ true))) → i < length xs
+    by : ((low ≡ 0) ⊎ (gives f d (at_least x (first +ℤ pos low)) ≡ true)) → Some a ≡ new_lower f d x
     by (inl z) = absurd (omega arith)
-    by (inr k) = k.0
+    by (inr t) = ap Some (e ∙ ap (at_least x) g) ∙ lower_is f d x first last low high q b h t
 
--- a value as the code passes it is small
-pub small_passed : (xs : List ℤ) (i : ℕ) → IsDomain xs → i < length xs → IsSmall (to_z w64 (of_z w64 (get_or xs i (pos 0))))
-small_passed xs i s h = subst IsSmall (sym (passed xs i s h)) (Each-get_or IsSmall xs i (pos 0) h s.small)
+-- the least value is no new lower bound
+first_lower : (f : Face) (d : Domains) (x : ℕ) (first last : ℤ) → AreBounds (values d x) first last → gives f d (at_least x first) ≡ false
+first_lower f d x first last b = false_from_ne_true (gives f d (at_least x first)) (λ t.
+    both_ways (entails d (at_least x first)) (gives-parts f d (at_least x first) t).0
+    (entails-from d (at_least x first) (λ v h. test-from_le first v (least-bound (values d x) first b.least v h))))
 
-pub lower_at : (f : Face) (d : Domains) (x i : ℕ) (xs : List ℤ) (v : ℤ) (a : Atomic) → xs ≡ values d x → IsDomain xs → IsLastLower f d x xs i → 0 < i → a ≡ at_least x v → v ≡ get_or xs i (pos 0) → Some a ≡ new_lower f d x
-lower_at f d x i xs v a e s r n g h = by r.given
+pub lower_not : (f : Face) (d : Domains) (x : ℕ) (first last : ℤ) (low high : ℕ) → AreBounds (values d x) first last → IsLowerBracket f d x first last low high → high ≤ low + 1 → low ≡ 0 → None ≡ new_lower f d x
+lower_not f d x first last low high q b h z =
+    let p : ℤ → Bool = λ v. gives f d (at_least x v) in
+    sym (ap (λ ys. option_map (at_least x) (greatest ys)) (nil-from_test (filter p (values d x)) (is_nil-none (filter p (values d x)) (λ v m.
+    let r = Among-filter_only p (values d x) v m in
+    let l = under p v (first +ℤ pos high) r.1 (λ k. b.none v k r.0) in
+    let k = least-bound (values d x) first q.least v r.0 in
+    let e : v ≡ first = omega (arith, ints, l, k, h, z) in
+    both_ways (p first) (first_lower f d x first last q) (subst (λ u. p u ≡ true) e r.1)))))
+
+upper_here : (f : Face) (d : Domains) (x : ℕ) (first last : ℤ) (low high : ℕ) → f.test d ≡ false → IsUpperBracket f d x first last low high → high ≤ low + 1 → gives f d (at_most x (last -ℤ pos low)) ≡ true → Among (last -ℤ pos low) (values d x)
+upper_here f d x first last low high q b h g =
+    let r = upper-lands f d x (last -ℤ pos low) q g in
+    let l = over (λ v. gives f d (at_most x v)) r.0 (last -ℤ pos high) r.3 (λ k. b.none r.0 k r.1) in
+    let k = r.2 in
+    let o = b.order in
+    let e : r.0 ≡ (last -ℤ pos low) = omega (arith, ints, l, k, h, o) in
+    subst (λ v. Among v (values d x)) e r.1
+
+upper_is : (f : Face) (d : Domains) (x : ℕ) (first last : ℤ) (low high : ℕ) → f.test d ≡ false → IsUpperBracket f d x first last low high → high ≤ low + 1 → gives f d (at_most x (last -ℤ pos low)) ≡ true → Some (at_most x (last -ℤ pos low)) ≡ new_upper f d x
+upper_is f d x first last low high q b h g =
+    sym (ap (option_map (at_most x)) (least-is (filter (λ v. gives f d (at_most x v)) (values d x)) (last -ℤ pos low)
+    (Among-filter_all (λ v. gives f d (at_most x v)) (values d x) (last -ℤ pos low) (upper_here f d x first last low high q b h g) g)
+    (λ v m.
+    let r = Among-filter_only (λ v. gives f d (at_most x v)) (values d x) v m in
+    let l = over (λ v. gives f d (at_most x v)) v (last -ℤ pos high) r.1 (λ k. b.none v k r.0) in
+    omega (arith, ints, l, h))))
+
+pub upper_at : (f : Face) (d : Domains) (x : ℕ) (first last : ℤ) (low high : ℕ) (v : ℤ) (a : Atomic) → f.test d ≡ false → IsUpperBracket f d x first last low high → high ≤ low + 1 → 0 < low → a ≡ at_most x v → v ≡ (last -ℤ pos low) → Some a ≡ new_upper f d x
+upper_at f d x first last low high v a q b h n e g = by b.given
   where
-    by : ((i ≡ 0) ⊎ ((i < length xs) × (gives f d (at_least x (at xs i)) ≡ true))) → Some a ≡ new_lower f d x
+    by : ((low ≡ 0) ⊎ (gives f d (at_most x (last -ℤ pos low)) ≡ true)) → Some a ≡ new_upper f d x
     by (inl z) = absurd (omega arith)
-    by (inr k) = lower_found f d x i xs v a e s k.0 g h r.none (subst (λ c. gives f d c ≡ true) (sym (g ∙ ap (at_least x) h)) k.1)
+    by (inr t) = ap Some (e ∙ ap (at_most x) g) ∙ upper_is f d x first last low high q b h t
 
-pub lower_not : (f : Face) (d : Domains) (x i : ℕ) (xs : List ℤ) → xs ≡ values d x → IsDomain xs → IsLastLower f d x xs i → i ≡ 0 → None ≡ new_lower f d x
-lower_not f d x i xs e s r z = lower_none f d x xs e (λ k h. by k h)
-  where
-    by : (k : ℕ) → k < length xs → gives f d (at_least x (at xs k)) ≡ false
-    by zero h = first_lower f d x xs e s.ascending
-    by (suc k) h = r.none (suc k) (omega arith) h
+-- the greatest value is no new upper bound
+last_upper : (f : Face) (d : Domains) (x : ℕ) (first last : ℤ) → AreBounds (values d x) first last → gives f d (at_most x last) ≡ false
+last_upper f d x first last b = false_from_ne_true (gives f d (at_most x last)) (λ t.
+    both_ways (entails d (at_most x last)) (gives-parts f d (at_most x last) t).0
+    (entails-from d (at_most x last) (λ v h. test-from_le v last (greatest-bound (values d x) last b.greatest v h))))
 
-pub upper_at : (f : Face) (d : Domains) (x i : ℕ) (xs : List ℤ) (v : ℤ) (a : Atomic) → xs ≡ values d x → IsDomain xs → IsFirstUpper f d x xs i → i + 1 < length xs → a ≡ at_most x v → v ≡ get_or xs i (pos 0) → Some a ≡ new_upper f d x
-upper_at f d x i xs v a e s r n g h = by r.given
-  where
-    by : ((length xs ≤ i + 1) ⊎ (gives f d (at_most x (at xs i)) ≡ true)) → Some a ≡ new_upper f d x
-    by (inl z) = absurd (omega arith)
-    by (inr k) = upper_found f d x i xs v a e s (omega arith) g h (λ j l. r.none j l (omega arith)) (subst (λ c. gives f d c ≡ true) (sym (g ∙ ap (at_most x) h)) k)
+pub upper_not : (f : Face) (d : Domains) (x : ℕ) (first last : ℤ) (low high : ℕ) → AreBounds (values d x) first last → IsUpperBracket f d x first last low high → high ≤ low + 1 → low ≡ 0 → None ≡ new_upper f d x
+upper_not f d x first last low high q b h z =
+    let p : ℤ → Bool = λ v. gives f d (at_most x v) in
+    sym (ap (λ ys. option_map (at_most x) (least ys)) (nil-from_test (filter p (values d x)) (is_nil-none (filter p (values d x)) (λ v m.
+    let r = Among-filter_only p (values d x) v m in
+    let l = over p v (last -ℤ pos high) r.1 (λ k. b.none v k r.0) in
+    let k = greatest-bound (values d x) last q.greatest v r.0 in
+    let e : v ≡ last = omega (arith, ints, l, k, h, z) in
+    both_ways (p last) (last_upper f d x first last q) (subst (λ u. p u ≡ true) e r.1)))))
 
-pub upper_not : (f : Face) (d : Domains) (x i : ℕ) (xs : List ℤ) → xs ≡ values d x → IsDomain xs → IsFirstUpper f d x xs i → length xs ≤ i + 1 → None ≡ new_upper f d x
-upper_not f d x i xs e s r z = upper_none f d x xs e (λ k h. by k h (cases_lt k i))
-  where
-    by : (k : ℕ) → k < length xs → (k < i) ⊎ (i ≤ k) → gives f d (at_most x (at xs k)) ≡ false
-    by k h (inl l) = r.none k l h
-    by k h (inr l) = last_upper f d x xs k e s.ascending h (omega arith)
+-- of a variable without values no bound is given
+pub no_lower : (f : Face) (d : Domains) (x : ℕ) → least (values d x) ≡ None → None ≡ new_lower f d x
+no_lower f d x e = sym (ap (λ xs. option_map (at_least x) (greatest (filter (λ v. gives f d (at_least x v)) xs))) (no_values (values d x) e))
+
+pub no_upper : (f : Face) (d : Domains) (x : ℕ) → least (values d x) ≡ None → None ≡ new_upper f d x
+no_upper f d x e = sym (ap (λ xs. option_map (at_most x) (least (filter (λ v. gives f d (at_most x v)) xs))) (no_values (values d x) e))

@@ -4,7 +4,7 @@ use Rattle.std.specs.List.{filter}
 use mir.Syntax.{w64}
 use mir.Val.{of_z, to_z}
 use Rattle.std.proofs.lemmas.Int.{ints}
-use Rattle.std.proofs.lemmas.Bool.{cases_eq, cases_lt, both_ways, false≢true, true≢false}
+use Rattle.std.proofs.lemmas.Bool.{and_parts, cases_eq, cases_lt, both_ways, false≢true, true≢false}
 use Rattle.std.proofs.lemmas.List.{get_or_default, drop_more}
 use Rattle.std.proofs.lemmas.Option.{slice_get_within, get_or_from_slice_get}
 use Rattle.dp_base.specs.Lists.{Among}
@@ -13,9 +13,10 @@ use Rattle.dp_domain.specs.Atoms.{Atomic}
 use Rattle.dp_domain.specs.Sets.{IsAscending, IsDomain, IsSmall, least, greatest}
 use Rattle.dp_domain.specs.States.{Domains, values}
 use Rattle.dp_domain.specs.Faces.{Face}
-use Rattle.dp_domain.specs.Turns.{at_least, at_most, other_than, gives, or_else, given, given_on, new_lower, new_upper, new_hole}
-use Rattle.dp_domain.proofs.SetLaws.{least-is, greatest-is}
+use Rattle.dp_domain.specs.Turns.{HoldsHoles, other_than, gives, or_else, given, given_on, new_hole}
+use Rattle.dp_domain.proofs.SetLaws.{least-is}
 use Rattle.dp_domain.proofs.StateLaws.{nil-from_test, is_nil-none}
+use Rattle.dp_domain.proofs.TurnLaws.{hole-lands}
 
 -- of two places in an ascending list the later has the greater value
 pub ascending-places : (xs : List ℤ) → IsAscending xs → (j k : ℕ) (d : ℤ) → j < k → k < length xs → get_or xs j d <ℤ get_or xs k d
@@ -39,72 +40,45 @@ place_of p xs v d h =
     let e : get_or xs c.0 d ≡ v = get_or_default xs c.0 d v c.1 ∙ c.2 in
     (c.0, c.1, e, ap p e ∙ r.1)
 
--- where no value before the place passes and the one there does, it is the least that passes
-pub least-passing : (p : ℤ → Bool) (xs : List ℤ) (i : ℕ) (d : ℤ) → IsAscending xs → i < length xs → ((k : ℕ) → k < i → p (get_or xs k d) ≡ false) → p (get_or xs i d) ≡ true → least (filter p xs) ≡ Some (get_or xs i d)
-least-passing p xs i d a h n t = least-is (filter p xs) (get_or xs i d)
-    (Among-filter_all p xs (get_or xs i d) (Among-get_or xs i d h) t)
-    (λ v m. let r = place_of p xs v d m in
-    elim (cases_lt r.0 i) [
-      | inl l ↦ absurd (both_ways (p (get_or xs r.0 d)) (n r.0 l) r.3)
-      | inr l ↦ subst (λ w. get_or xs i d ≤ℤ w) r.2 (places_le xs a i r.0 d l r.1)
-    ])
-
--- where no value after the place passes and the one there does, it is the greatest that passes
-pub greatest-passing : (p : ℤ → Bool) (xs : List ℤ) (i : ℕ) (d : ℤ) → IsAscending xs → i < length xs → ((k : ℕ) → i < k → k < length xs → p (get_or xs k d) ≡ false) → p (get_or xs i d) ≡ true → greatest (filter p xs) ≡ Some (get_or xs i d)
-greatest-passing p xs i d a h n t = greatest-is (filter p xs) (get_or xs i d)
-    (Among-filter_all p xs (get_or xs i d) (Among-get_or xs i d h) t)
-    (λ v m. let r = place_of p xs v d m in
-    elim (cases_lt i r.0) [
-      | inl l ↦ absurd (both_ways (p (get_or xs r.0 d)) (n r.0 l r.1) r.3)
-      | inr l ↦ subst (λ w. w ≤ℤ get_or xs i d) r.2 (places_le xs a r.0 i d l h)
-    ])
-
--- where no place passes, a filter keeps nothing
-pub filter-nothing : (p : ℤ → Bool) (xs : List ℤ) (d : ℤ) → ((k : ℕ) → k < length xs → p (get_or xs k d) ≡ false) → filter p xs ≡ []
-filter-nothing p xs d n = nil-from_test (filter p xs) (is_nil-none (filter p xs) (λ v m. let r = place_of p xs v d m in both_ways (p (get_or xs r.0 d)) (n r.0 r.1) r.3))
-
 -- ---- what the searches of one variable return
 
 -- a value as the code passes it
 pub passed : (xs : List ℤ) (i : ℕ) → IsDomain xs → i < length xs → to_z w64 (of_z w64 (get_or xs i (pos 0))) ≡ get_or xs i (pos 0)
 passed xs i d h = let s = Each-get_or IsSmall xs i (pos 0) h d.small in omega (arith, ints, s.0, s.1)
 
-pub lower_found : (f : Face) (d : Domains) (x i : ℕ) (xs : List ℤ) (v : ℤ) (a : Atomic) → xs ≡ values d x → IsDomain xs → i < length xs → a ≡ at_least x v → v ≡ get_or xs i (pos 0) → ((k : ℕ) → i < k → k < length xs → gives f d (at_least x (get_or xs k (pos 0))) ≡ false) → gives f d a ≡ true → Some a ≡ new_lower f d x
-lower_found f d x i xs v a e s h g r n t =
-    let k : a ≡ at_least x (get_or xs i (pos 0)) = g ∙ ap (at_least x) r in
-    let m = greatest-passing (λ v. gives f d (at_least x v)) xs i (pos 0) s.ascending h n (subst (λ b. gives f d b ≡ true) k t) in
-    ap Some k ∙ ap (λ o. option_map (at_least x) o) (sym m) ∙ ap (λ ys. option_map (at_least x) (greatest (filter (λ v. gives f d (at_least x v)) ys))) e
-
-pub lower_none : (f : Face) (d : Domains) (x : ℕ) (xs : List ℤ) → xs ≡ values d x → ((k : ℕ) → k < length xs → gives f d (at_least x (get_or xs k (pos 0))) ≡ false) → None ≡ new_lower f d x
-lower_none f d x xs e n =
-    let m = filter-nothing (λ v. gives f d (at_least x v)) xs (pos 0) n in
-    ap (λ ys. option_map (at_least x) (greatest ys)) (sym m) ∙ ap (λ ys. option_map (at_least x) (greatest (filter (λ v. gives f d (at_least x v)) ys))) e
-
-pub upper_found : (f : Face) (d : Domains) (x i : ℕ) (xs : List ℤ) (v : ℤ) (a : Atomic) → xs ≡ values d x → IsDomain xs → i < length xs → a ≡ at_most x v → v ≡ get_or xs i (pos 0) → ((k : ℕ) → k < i → gives f d (at_most x (get_or xs k (pos 0))) ≡ false) → gives f d a ≡ true → Some a ≡ new_upper f d x
-upper_found f d x i xs v a e s h g r n t =
-    let k : a ≡ at_most x (get_or xs i (pos 0)) = g ∙ ap (at_most x) r in
-    let m = least-passing (λ v. gives f d (at_most x v)) xs i (pos 0) s.ascending h n (subst (λ b. gives f d b ≡ true) k t) in
-    ap Some k ∙ ap (λ o. option_map (at_most x) o) (sym m) ∙ ap (λ ys. option_map (at_most x) (least (filter (λ v. gives f d (at_most x v)) ys))) e
-
-pub upper_none : (f : Face) (d : Domains) (x : ℕ) (xs : List ℤ) → xs ≡ values d x → ((k : ℕ) → k < length xs → gives f d (at_most x (get_or xs k (pos 0))) ≡ false) → None ≡ new_upper f d x
-upper_none f d x xs e n =
-    let m = filter-nothing (λ v. gives f d (at_most x v)) xs (pos 0) n in
-    ap (λ ys. option_map (at_most x) (least ys)) (sym m) ∙ ap (λ ys. option_map (at_most x) (least (filter (λ v. gives f d (at_most x v)) ys))) e
-
 -- whether the value is a point that is taken out
 abbrev pub takes : Face → Domains → ℕ → ℤ → Bool
 takes f d x v = f.point x v && gives f d (other_than x v)
 
-pub hole_found : (f : Face) (d : Domains) (x i : ℕ) (xs : List ℤ) (v : ℤ) (a : Atomic) → xs ≡ values d x → IsDomain xs → i < length xs → a ≡ other_than x v → v ≡ get_or xs i (pos 0) → ((k : ℕ) → k < i → takes f d x (get_or xs k (pos 0)) ≡ false) → takes f d x v ≡ true → Some a ≡ new_hole f d x
-hole_found f d x i xs v a e s h g r n t =
-    let k : a ≡ other_than x (get_or xs i (pos 0)) = g ∙ ap (other_than x) r in
-    let m = least-passing (takes f d x) xs i (pos 0) s.ascending h n (subst (λ w. takes f d x w ≡ true) r t) in
-    ap Some k ∙ ap (λ o. option_map (other_than x) o) (sym m) ∙ ap (λ ys. option_map (other_than x) (least (filter (takes f d x) ys))) e
+-- a number that is taken out is among the candidates
+among_candidates : (f : Face) (d : Domains) (x : ℕ) (xs : List ℤ) (v : ℤ) → HoldsHoles f d x xs → takes f d x v ≡ true → Among v xs
+among_candidates f d x xs v all t = let r = and_parts (f.point x v) (gives f d (other_than x v)) t in all v r.0 r.1
 
-pub hole_none : (f : Face) (d : Domains) (x : ℕ) (xs : List ℤ) → xs ≡ values d x → ((k : ℕ) → k < length xs → takes f d x (get_or xs k (pos 0)) ≡ false) → None ≡ new_hole f d x
-hole_none f d x xs e n =
-    let m = filter-nothing (takes f d x) xs (pos 0) n in
-    ap (λ ys. option_map (other_than x) (least ys)) (sym m) ∙ ap (λ ys. option_map (other_than x) (least (filter (takes f d x) ys))) e
+-- it stands at one of the places
+place_among : (f : Face) (d : Domains) (x : ℕ) (xs : List ℤ) (v : ℤ) → HoldsHoles f d x xs → takes f d x v ≡ true → (k : ℕ) × (k < length xs) × (get_or xs k (pos 0) ≡ v) × (takes f d x (get_or xs k (pos 0)) ≡ true)
+place_among f d x xs v all t = place_of (takes f d x) xs v (pos 0) (Among-filter_all (takes f d x) xs v (among_candidates f d x xs v all t) t)
+
+hole_is : (f : Face) (d : Domains) (x i : ℕ) (xs : List ℤ) → HoldsHoles f d x xs → IsDomain xs → i < length xs → ((k : ℕ) → k < i → takes f d x (get_or xs k (pos 0)) ≡ false) → takes f d x (get_or xs i (pos 0)) ≡ true → least (filter (takes f d x) (values d x)) ≡ Some (get_or xs i (pos 0))
+hole_is f d x i xs all s h n t =
+    let r = and_parts (f.point x (get_or xs i (pos 0))) (gives f d (other_than x (get_or xs i (pos 0)))) t in
+    least-is (filter (takes f d x) (values d x)) (get_or xs i (pos 0))
+    (Among-filter_all (takes f d x) (values d x) (get_or xs i (pos 0)) (hole-lands f d x (get_or xs i (pos 0)) r.1) t)
+    (λ v m.
+    let k = place_among f d x xs v all (Among-filter_only (takes f d x) (values d x) v m).1 in
+    elim (cases_lt k.0 i) [
+      | inl l ↦ absurd (both_ways (takes f d x (get_or xs k.0 (pos 0))) (n k.0 l) k.3)
+      | inr l ↦ subst (λ w. get_or xs i (pos 0) ≤ℤ w) k.2 (places_le xs s.ascending i k.0 (pos 0) l k.1)
+    ])
+
+pub hole_found : (f : Face) (d : Domains) (x i : ℕ) (xs : List ℤ) (v : ℤ) (a : Atomic) → HoldsHoles f d x xs → IsDomain xs → i < length xs → a ≡ other_than x v → v ≡ get_or xs i (pos 0) → ((k : ℕ) → k < i → takes f d x (get_or xs k (pos 0)) ≡ false) → takes f d x v ≡ true → Some a ≡ new_hole f d x
+hole_found f d x i xs v a all s h g r n t =
+    ap Some (g ∙ ap (other_than x) r) ∙ ap (λ o. option_map (other_than x) o) (sym (hole_is f d x i xs all s h n (subst (λ w. takes f d x w ≡ true) r t)))
+
+pub hole_none : (f : Face) (d : Domains) (x : ℕ) (xs : List ℤ) → HoldsHoles f d x xs → ((k : ℕ) → k < length xs → takes f d x (get_or xs k (pos 0)) ≡ false) → None ≡ new_hole f d x
+hole_none f d x xs all n =
+    sym (ap (λ ys. option_map (other_than x) (least ys)) (nil-from_test (filter (takes f d x) (values d x)) (is_nil-none (filter (takes f d x) (values d x)) (λ v m.
+    let k = place_among f d x xs v all (Among-filter_only (takes f d x) (values d x) v m).1 in
+    both_ways (takes f d x (get_or xs k.0 (pos 0))) (n k.0 k.1) k.3))))
 
 -- ---- one variable after another
 

@@ -55,6 +55,12 @@ abbrev pub greatest : List ℤ → Option ℤ
 greatest [] = None
 greatest (x ∷ xs) = Some (greatest_from x xs)
 
+-- the least value of a domain and its greatest
+pub record AreBounds (xs : List ℤ) (first last : ℤ) : Type 0 where
+  pub domain : IsDomain xs
+  pub least : least xs ≡ Some first
+  pub greatest : greatest xs ≡ Some last
+
 -- whether the value comes right after the end of the interval
 abbrev pub is_next : ℤ → ℤ → Bool
 is_next end v = int_le v (end +ℤ pos 1)

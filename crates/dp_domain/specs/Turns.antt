@@ -56,15 +56,9 @@ given f d (x ∷ xs) = or_else (given_on f d x) (given f d xs)
 abbrev pub turn_of : Face → Domains → Option Found
 turn_of f d = if f.test d then Some Clash else option_map Atom (given f d f.scope)
 
--- of the values that are new lower bounds that follow, the one at the place is the last; at place 0 there is none
-pub record IsLastLower (f : Face) (d : Domains) (x : ℕ) (xs : List ℤ) (place : ℕ) : Type 0 where
-  pub given : (place ≡ 0) ⊎ ((place < length xs) × (gives f d (at_least x (get_or xs place (pos 0))) ≡ true))
-  pub none : (k : ℕ) → place < k → k < length xs → gives f d (at_least x (get_or xs k (pos 0))) ≡ false
-
--- of the values that are new upper bounds that follow, the one at the place is the first; at the last place of all there is none
-pub record IsFirstUpper (f : Face) (d : Domains) (x : ℕ) (xs : List ℤ) (place : ℕ) : Type 0 where
-  pub given : (length xs ≤ place + 1) ⊎ (gives f d (at_most x (get_or xs place (pos 0))) ≡ true)
-  pub none : (k : ℕ) → k < place → k < length xs → gives f d (at_most x (get_or xs k (pos 0))) ≡ false
+-- all points of the variable that are newly taken out are among these numbers
+abbrev pub HoldsHoles : Face → Domains → ℕ → List ℤ → Type 0
+HoldsHoles f d x xs = (v : ℤ) → f.point x v ≡ true → gives f d (other_than x v) ≡ true → Among v xs
 
 -- ---- the same in words of all integers
 

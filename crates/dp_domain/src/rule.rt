@@ -4,9 +4,9 @@ ghost use Rattle.std.specs.Prelude.{◌≡◌, ℕ, ◌+◌, ◌<◌, ◌↔◌,
 ghost use Rattle.dp_domain.specs.Explanations.{IsOpen, explanation, suffices};
 ghost use Rattle.dp_domain.specs.Faces.{Covers, Face, Fixes, IsLawful};
 ghost use Rattle.dp_domain.specs.States.{Domains, IsWithin, LiesIn, is_dead};
-ghost use Rattle.dp_domain.specs.Turns.{turn_of};
+ghost use Rattle.dp_domain.specs.Turns.{HoldsHoles, turn_of};
 
-use crate::{Atom, Found, Memory, Scratch, State, Steps, VarId};
+use crate::{Atom, Dom, Found, Memory, Scratch, State, Steps, VarId};
 use std::sync::ledger::Ledger;
 
 /// A part of a constraint: which assignments meet it, and a test that says where no assignment can.
@@ -32,6 +32,14 @@ pub trait Test {
     /// Whether it may take the value out of the variable singly, where both bounds stay.
     fn is_point(&self, var: VarId, value: i64) -> bool
         ensures { result ≡ (face self.now).point var value };
+
+    /// Numbers among which all are that it newly takes out of the variable at the state.
+    fn candidates(&self, var: VarId, state: &State) -> Result<Dom, Memory>
+        requires { var < length state.now }
+        ensures { IfOk result (λ numbers. HoldsHoles (face self.now) state.now var numbers) }
+    {
+        state.set(var).copy()
+    }
 
     /// Whether it clashes at the state.
     fn clash(&self, state: &State) -> Result<bool, Memory>

@@ -1,17 +1,17 @@
 // The turn of one part, by its test.
 
-ghost use Rattle.std.specs.Prelude.{◌≡◌, ◌+◌, ◌<◌, ◌&&◌, false, length, IfOk, OnOk};
+ghost use Rattle.std.specs.Prelude.{◌≡◌, ◌+◌, ◌*◌, ◌^◌, ◌<◌, ◌≤◌, ◌&&◌, ◌+ℤ◌, ◌-ℤ◌, ◌≤ℤ◌, pos, false, length, IfOk, OnOk};
 ghost use Rattle.dp_domain.specs.Faces.{Covers};
-ghost use Rattle.dp_domain.specs.Sets.{IsDomain, IsSmall};
+ghost use Rattle.dp_domain.specs.Sets.{AreBounds, IsSmall};
 ghost use Rattle.dp_domain.specs.States.{is_dead, values};
-ghost use Rattle.dp_domain.specs.Turns.{IsFirstUpper, IsLastLower, IsTurn, given, given_on, gives, new_hole, new_lower, new_upper, other_than, turn_of};
+ghost use Rattle.dp_domain.specs.Turns.{IsTurn, given, given_on, gives, new_hole, new_lower, new_upper, other_than, turn_of};
 
 use crate::{Atom, Found, Memory, Op, State, Steps, Test, VarId};
 use std::sync::ledger::Ledger;
 
 /// The turn of any part at a nonempty state, found by its test. It ticks once, also where it answers
 /// `Memory`. It copies the state once; for each test it makes the set of one variable anew. It finds
-/// bounds by bisection over the values, and tries each point for a hole.
+/// bounds by bisection between the least value and the greatest, and tries the part's candidates for holes.
 pub fn search_turn<R: Test, L: Ledger>(
     rule: &R,
     state: &State,
@@ -45,6 +45,7 @@ fn found<R: Test>(rule: &R, state: &State) -> Result<Option<Found>, Memory>
 /// What the part gives on the first variable that it gives something on.
 fn given<R: Test>(rule: &R, state: &State, work: &mut State) -> Result<Option<Atom>, Memory>
     requires covers { Covers (R.face rule.now).scope state.now }
+    requires quiet { (R.face rule.now).test state.now ≡ false }
     requires same { work.old ≡ state.now }
     ensures { IfOk result (λ atom. atom ≡ given (R.face rule.now) state.now (R.face rule.now).scope) }
 {
@@ -65,6 +66,7 @@ fn given_on<R: Test>(
     var: VarId,
 ) -> Result<Option<Atom>, Memory>
     requires covers { Covers (R.face rule.now).scope state.now }
+    requires quiet { (R.face rule.now).test state.now ≡ false }
     requires var { var < length state.now }
     requires same { work.old ≡ state.now }
     ensures given { IfOk result (λ atom. atom ≡ given_on (R.face rule.now) state.now var) }
@@ -89,41 +91,40 @@ fn new_lower<R: Test>(
     var: VarId,
 ) -> Result<Option<Atom>, Memory>
     requires covers { Covers (R.face rule.now).scope state.now }
+    requires quiet { (R.face rule.now).test state.now ≡ false }
     requires var { var < length state.now }
     requires same { work.old ≡ state.now }
     ensures lower { IfOk result (λ atom. atom ≡ new_lower (R.face rule.now) state.now var) }
     ensures same { OnOk result (work.new ≡ state.now) }
 {
-    let numbers = state.set(var).values()?;
-    let values = numbers.as_slice();
-    let place = last_lower(rule, state, work, var, values)?;
-    if place == 0 {
-        return Ok(None);
+    match (state.lower(var), state.upper(var)) {
+        (Some(first), Some(last)) => lower_between(rule, state, work, var, first, last),
+        _ => Ok(None),
     }
-    Ok(Some(Atom::small(var, Op::Ge, values[place])))
 }
 
-/// The last place whose value is a new lower bound that follows; 0 where there is none.
-fn last_lower<R: Test>(
+/// The greatest new lower bound that follows, where the variable has these bounds.
+fn lower_between<R: Test>(
     rule: &R,
     state: &State,
     work: &mut State,
     var: VarId,
-    numbers: &[i64],
-) -> Result<usize, Memory>
+    first: i64,
+    last: i64,
+) -> Result<Option<Atom>, Memory>
     requires covers { Covers (R.face rule.now).scope state.now }
+    requires quiet { (R.face rule.now).test state.now ≡ false }
     requires var { var < length state.now }
     requires same { work.old ≡ state.now }
-    requires numbers { numbers.now ≡ values state.now var }
-    requires domain { IsDomain numbers.now }
-    ensures place { IfOk result (λ place. IsLastLower (R.face rule.now) state.now var numbers.now place) }
+    requires bounds { AreBounds (values state.now var) first last }
+    ensures lower { IfOk result (λ atom. atom ≡ new_lower (R.face rule.now) state.now var) }
     ensures same { OnOk result (work.new ≡ state.now) }
 {
     let mut low = 0;
-    let mut high = numbers.len();
+    let mut high = distance(first, last) + 1;
     while low + 1 < high {
         let middle = low + (high - low) / 2;
-        let atom = Atom::small(var, Op::Ge, numbers[middle]);
+        let atom = Atom::small(var, Op::Ge, above(first, middle));
         let given = gives(rule, state, work, atom)?;
         if given {
             low = middle;
@@ -131,7 +132,10 @@ fn last_lower<R: Test>(
             high = middle;
         }
     }
-    Ok(low)
+    if low == 0 {
+        return Ok(None);
+    }
+    Ok(Some(Atom::small(var, Op::Ge, above(first, low))))
 }
 
 /// The least new upper bound that follows.
@@ -142,50 +146,82 @@ fn new_upper<R: Test>(
     var: VarId,
 ) -> Result<Option<Atom>, Memory>
     requires covers { Covers (R.face rule.now).scope state.now }
+    requires quiet { (R.face rule.now).test state.now ≡ false }
     requires var { var < length state.now }
     requires same { work.old ≡ state.now }
     ensures upper { IfOk result (λ atom. atom ≡ new_upper (R.face rule.now) state.now var) }
     ensures same { OnOk result (work.new ≡ state.now) }
 {
-    let numbers = state.set(var).values()?;
-    let values = numbers.as_slice();
-    let place = first_upper(rule, state, work, var, values)?;
-    let last = values.len().saturating_sub(1);
-    if place >= last {
-        return Ok(None);
+    match (state.lower(var), state.upper(var)) {
+        (Some(first), Some(last)) => upper_between(rule, state, work, var, first, last),
+        _ => Ok(None),
     }
-    Ok(Some(Atom::small(var, Op::Le, values[place])))
 }
 
-/// The first place whose value is a new upper bound that follows; the last of all where there is none.
-fn first_upper<R: Test>(
+/// The least new upper bound that follows, where the variable has these bounds.
+fn upper_between<R: Test>(
     rule: &R,
     state: &State,
     work: &mut State,
     var: VarId,
-    numbers: &[i64],
-) -> Result<usize, Memory>
+    first: i64,
+    last: i64,
+) -> Result<Option<Atom>, Memory>
     requires covers { Covers (R.face rule.now).scope state.now }
+    requires quiet { (R.face rule.now).test state.now ≡ false }
     requires var { var < length state.now }
     requires same { work.old ≡ state.now }
-    requires numbers { numbers.now ≡ values state.now var }
-    requires domain { IsDomain numbers.now }
-    ensures place { IfOk result (λ place. IsFirstUpper (R.face rule.now) state.now var numbers.now place) }
+    requires bounds { AreBounds (values state.now var) first last }
+    ensures upper { IfOk result (λ atom. atom ≡ new_upper (R.face rule.now) state.now var) }
     ensures same { OnOk result (work.new ≡ state.now) }
 {
     let mut low = 0;
-    let mut high = numbers.len().saturating_sub(1);
-    while low < high {
+    let mut high = distance(first, last) + 1;
+    while low + 1 < high {
         let middle = low + (high - low) / 2;
-        let atom = Atom::small(var, Op::Le, numbers[middle]);
+        let atom = Atom::small(var, Op::Le, below(last, middle));
         let given = gives(rule, state, work, atom)?;
         if given {
-            high = middle;
+            low = middle;
         } else {
-            low = middle + 1;
+            high = middle;
         }
     }
-    Ok(high)
+    if low == 0 {
+        return Ok(None);
+    }
+    Ok(Some(Atom::small(var, Op::Le, below(last, low))))
+}
+
+/// How far the last number is above the first.
+fn distance(first: i64, last: i64) -> usize
+    requires first { IsSmall first }
+    requires last { IsSmall last }
+    requires order { first ≤ℤ last }
+    ensures sum { first +ℤ pos result ≡ last }
+    ensures short { result ≤ 2 * 10 ^ 9 }
+{
+    (last - first) as usize
+}
+
+/// The number that is so far above the first.
+fn above(first: i64, by: usize) -> i64
+    requires first { IsSmall first }
+    requires sum { IsSmall (first +ℤ pos by) }
+    ensures sum { result ≡ first +ℤ pos by }
+    ensures small { IsSmall result }
+{
+    first + by as i64
+}
+
+/// The number that is so far below the last.
+fn below(last: i64, by: usize) -> i64
+    requires last { IsSmall last }
+    requires difference { IsSmall (last -ℤ pos by) }
+    ensures difference { result ≡ last -ℤ pos by }
+    ensures small { IsSmall result }
+{
+    last - by as i64
 }
 
 /// The least value that is taken out, among the part's points.
@@ -201,7 +237,8 @@ fn new_hole<R: Test>(
     ensures hole { IfOk result (λ atom. atom ≡ new_hole (R.face rule.now) state.now var) }
     ensures same { OnOk result (work.new ≡ state.now) }
 {
-    let numbers = state.set(var).values()?;
+    let candidates = rule.candidates(var, state)?;
+    let numbers = candidates.values()?;
     let values = numbers.as_slice();
     for place in 0..values.len() {
         let value = values[place];

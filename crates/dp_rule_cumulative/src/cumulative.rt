@@ -9,7 +9,7 @@ ghost use Rattle.dp_rule_cumulative.specs.TimeTableLaws.{cumulative_deciding, cu
 use crate::profile::{is_exceeded, parts_of};
 use crate::turn::{turn, variable_count};
 use crate::{Atom, Found, Memory, Rule, State, Steps, Task, TaskRefusal, Term, Test, VarId, given};
-use dp_domain::{Scratch, search_explanation, search_turn, term_scope};
+use dp_domain::{Dom, Scratch, search_explanation, search_turn, term_scope};
 use std::alloc::Global;
 use std::marker::Model;
 use std::sync::ledger::Ledger;
@@ -99,6 +99,10 @@ impl Test for Cumulative {
 
     fn is_point(&self, _var: VarId, _value: i64) -> bool {
         false
+    }
+
+    fn candidates(&self, _var: VarId, state: &State) -> Result<Dom, Memory> {
+        Dom::range(state.allocator(), 1, 0)
     }
 
     fn clash(&self, state: &State) -> Result<bool, Memory> {

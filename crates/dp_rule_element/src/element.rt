@@ -5,7 +5,7 @@ ghost use Rattle.dp_rule_element.specs.SelectionLaws.{element_deciding, element_
 ghost use Rattle.dp_rule_element.specs.Selections.{ClashesElement, MeetsElement, face_element};
 
 use crate::{Atom, Found, Memory, Rule, State, Steps, Term, Test, VarId, entries, places, turn};
-use dp_domain::{Scratch, search_explanation, search_turn, term_scope};
+use dp_domain::{Dom, Scratch, search_explanation, search_turn, term_scope};
 use std::alloc::Global;
 use std::marker::Model;
 use std::sync::ledger::Ledger;
@@ -93,6 +93,14 @@ impl Test for Element {
 
     fn is_point(&self, var: VarId, _value: i64) -> bool {
         places::is_variable(self.index, var)
+    }
+
+    fn candidates(&self, var: VarId, state: &State) -> Result<Dom, Memory> {
+        if places::is_variable(self.index, var) {
+            state.set(var).copy()
+        } else {
+            Dom::range(state.allocator(), 1, 0)
+        }
     }
 
     fn clash(&self, state: &State) -> Result<bool, Memory> {

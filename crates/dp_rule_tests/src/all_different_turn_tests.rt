@@ -3,7 +3,7 @@
 use crate::all_different_tests::{X, Y, Z, all_different};
 use dp_domain::Op;
 use dp_rule_alldiff::*;
-use dp_trials::{clashes, gives, leads, state_of};
+use dp_trials::{clashes, gives, leads, state_of, turn_at};
 use std::test::Fail;
 
 fn atom(var: u32, op: Op, value: i64) -> Result<Atom, Fail> {
@@ -55,5 +55,16 @@ fn two_numbers_that_are_taken(rt: HostRuntime) -> Result<(), Fail> {
     let low = [least, cuts[0], cuts[1], cuts[2], cuts[3]];
     let given = atom(0, Op::Ge, 3)?;
     assert!(rt; leads(&rule, &initial, &low, given, &low)?);
+    Ok(())
+}
+
+#[test]
+fn one_variable_twice_in_a_wide_domain(rt: HostRuntime) -> Result<(), Fail> {
+    let alloc = rt.alloc();
+    let ends = (-1_000_000_000, 1_000_000_000);
+    let state = state_of(alloc, &[ends, ends])?;
+    let rule = all_different(alloc, &[X, X, Y])?;
+    let second = atom(0, Op::Ge, -999_999_999)?;
+    assert_eq!(rt; turn_at(&rule, &state)?, Some(Found::Atom(second)));
     Ok(())
 }

@@ -180,3 +180,18 @@ fn starts_that_are_large(rt: HostRuntime) -> Result<(), Fail> {
     assert_eq!(rt; large_turn(alloc, i64::MIN, 1, LARGEST)?, None);
     Ok(())
 }
+
+#[test]
+fn one_start_twice_in_a_wide_domain(rt: HostRuntime) -> Result<(), Fail> {
+    let alloc = rt.alloc();
+    let state = state_of(alloc, &[(-LARGEST, LARGEST)])?;
+    let tight = cumulative(alloc, &[S, S], &[2, 2], &[1, 1], 1)?;
+    assert_eq!(rt;
+        turn_at(&tight, &state)?,
+        at_least(0, -LARGEST + 2),
+        "at once it is too much"
+    );
+    let wide = cumulative(alloc, &[S, S], &[2, 2], &[1, 1], 2)?;
+    assert_eq!(rt; turn_at(&wide, &state)?, None, "it fits");
+    Ok(())
+}

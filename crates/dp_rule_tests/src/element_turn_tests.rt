@@ -237,3 +237,18 @@ fn numbers_beyond_all_sets(rt: HostRuntime) -> Result<(), Fail> {
     assert_eq!(rt; turn_at(&rule, &state)?, Some(Found::Clash), "none");
     Ok(())
 }
+
+#[test]
+fn wide_domains_beside_an_index_in_the_array(rt: HostRuntime) -> Result<(), Fail> {
+    let alloc = rt.alloc();
+    let ends = (-1_000_000_000, 1_000_000_000);
+    let state = state_of(alloc, &[ends, (1, 3)])?;
+    let rule = element(
+        alloc,
+        variable(1),
+        &[variable(1), Term::Const(4), variable(0)],
+        variable(0),
+    )?;
+    assert_eq!(rt; turn_at(&rule, &state)?, None);
+    Ok(())
+}

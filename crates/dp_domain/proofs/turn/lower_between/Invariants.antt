@@ -1,11 +1,11 @@
 use Rattle.std.proofs.Common.{◌≡◌, ◌-◌}
 use Rattle.dp_domain.proofs.BisectSteps.{IsLowerBracket}
-use Rattle.dp_domain.proofs.turn.last_lower.Given as goal
+use Rattle.dp_domain.proofs.turn.lower_between.Given as goal
 
--- the place is between the two, and the working copy is the state
+-- the bound is between the two, and the working copy is the state
 abbrev pub invariant-loop-low : goal.invariant-loop-low
 invariant-loop-low g l = record {
-  bracket : IsLowerBracket (g.R.Test.face l.rule) l.state l.var l.numbers l.low l.high;
+  bracket : IsLowerBracket (g.R.Test.face l.rule) l.state l.var l.first l.last l.low l.high;
   same : l.work ≡ l.state;
 }
 
