@@ -12,3 +12,4 @@ pub mod WokenLaws
 pub mod RosterLaws
 pub mod StepLaws
 pub mod TrackedLaws
+pub mod MarkLaws

@@ -1,5 +1,5 @@
 -- Woken parts: what is kept of the others, and how parts are woken.
-use Rattle.std.specs.Prelude.{◌≡◌, ℕ, ◌+◌, ◌<◌, ◌≤◌, Bool, true, false, ◌++◌, List, [], ◌∷◌, length, get_or, slice_get, slice_set, Option, Some, None, if◌then◌else◌, ◌==◌, filter}
+use Rattle.std.specs.Prelude.{◌≡◌, ℕ, ◌+◌, ◌*◌, ◌/◌, ◌<◌, ◌≤◌, Bool, true, false, ◌++◌, List, [], ◌∷◌, length, get_or, slice_get, slice_set, Option, Some, None, if◌then◌else◌, ◌==◌, filter}
 use Rattle.std.specs.List.{list_any}
 use Rattle.dp_base.specs.Lists.{Among, Each}
 use Rattle.dp_domain.specs.Atoms.{Atomic}
@@ -107,3 +107,12 @@ pub record IsFirstWoken (woken : List Bool) (place : ℕ) : Type 0 where
   pub there : place < length woken
   pub woken_there : get_or woken place false ≡ true
   pub before : (k : ℕ) → k < place → get_or woken k false ≡ false
+
+-- no part before the place is woken
+abbrev pub AreResting : ℕ → List Bool → Type 0
+AreResting place woken = (k : ℕ) → k < place → get_or woken k false ≡ false
+
+-- the places stand in blocks of 512, each with a mark; no part in a block that is not marked is woken
+pub record AreMarked (marks woken : List Bool) : Type 0 where
+  pub reach : length woken ≤ 512 * length marks
+  pub resting : (k : ℕ) → get_or marks (k / 512) false ≡ false → get_or woken k false ≡ false

@@ -1,28 +1,34 @@
 // Which parts are woken.
 
-ghost use Rattle.std.specs.Prelude.{◌≡◌, ℕ, ◌<◌, ◌≤◌, Bool, true, false, List, [], ◌∷◌, ◌++◌, length, get_or, slice_set, IfOk, MatchOption, OnErr, OnOk};
+ghost use Rattle.std.specs.Prelude.{◌≡◌, ℕ, ◌*◌, ◌<◌, ◌≤◌, Bool, true, false, List, [], ◌∷◌, ◌++◌, length, get_or, slice_set, IfOk, MatchOption, OnErr, OnOk};
 ghost use Rattle.dp_base.specs.Lists.{Each};
-ghost use Rattle.dp_engine.specs.Woken.{IsFirstWoken, with_woken};
+ghost use Rattle.dp_engine.specs.Woken.{AreMarked, AreResting, IsFirstWoken, with_woken};
 
 use dp_domain::Memory;
 use std::alloc::Global;
 use std::marker::Model;
 
-/// For each part, by its place, whether it is woken; seen as that list. No part below `lowest` is woken.
+/// How many places stand in a block.
+const BLOCK: usize = 512;
+
+/// For each part, by its place, whether it is woken; seen as that list. No part below `lowest` is woken,
+/// and none in a block of places that is not marked, so a search passes such a block in one step.
 #[derive(Drop)]
 pub struct Woken {
     bits: Vec<bool>,
+    marks: Vec<bool>,
     lowest: usize,
 }
 
 impl Model for Woken {
-    ghost use Rattle.std.specs.Prelude.{◌≡◌, ℕ, ◌<◌, Bool, false, List, get_or};
+    ghost use Rattle.std.specs.Prelude.{Bool, List};
+    ghost use Rattle.dp_engine.specs.Woken.{AreMarked, AreResting};
 
     ghost Value = { List Bool };
 
     ghost view = { λ w. w.bits.items };
 
-    ghost invariant = { λ w. (k : ℕ) → k < w.lowest → get_or w.bits.items k false ≡ false };
+    ghost invariant = { λ w. AreMarked w.marks.items w.bits.items × AreResting w.lowest w.bits.items };
 }
 
 impl Woken {
@@ -33,6 +39,7 @@ impl Woken {
     {
         Ok(Woken {
             bits: all_true(alloc, count)?,
+            marks: all_true(alloc, count / BLOCK + 1)?,
             lowest: 0,
         })
     }
@@ -43,7 +50,9 @@ impl Woken {
         ensures unchanged { OnErr result (self.new ≡ self.old) }
     {
         let place = self.bits.len();
+        reach(&mut self.marks, place)?;
         self.bits.push(true)?;
+        self.marks[place / BLOCK] = true;
         self.lowest = self.lowest.min(place);
         Ok(())
     }
@@ -60,7 +69,7 @@ impl Woken {
         ensures same { self.new ≡ self.old }
         ensures first { MatchOption result ((k : ℕ) → get_or self.old k false ≡ false) (IsFirstWoken self.old) }
     {
-        let first = first_from(self.bits.as_slice(), self.lowest);
+        let first = first_from(self.bits.as_slice(), &mut self.marks, self.lowest);
         self.lowest = match first {
             Some(place) => place,
             None => self.bits.len(),
@@ -74,6 +83,7 @@ impl Woken {
         ensures { self.new ≡ slice_set self.old place true }
     {
         self.bits[place] = true;
+        self.marks[place / BLOCK] = true;
         self.lowest = self.lowest.min(place);
     }
 
@@ -96,16 +106,57 @@ impl Woken {
     }
 }
 
-/// The first place from one on at which there is true.
-fn first_from(bits: &[bool], from: usize) -> Option<usize>
-    ensures { MatchOption result ((k : ℕ) → from ≤ k → get_or bits.now k false ≡ false) (λ place. (from ≤ place) × (place < length bits.now) × (get_or bits.now place false ≡ true) × ((k : ℕ) → from ≤ k → k < place → get_or bits.now k false ≡ false)) }
+/// The first place from one on at which there is true. The marks of blocks that are passed whole are
+/// taken away.
+fn first_from(bits: &[bool], marks: &mut [bool], from: usize) -> Option<usize>
+    requires marked { AreMarked marks.old bits.now }
+    requires resting { AreResting from bits.now }
+    ensures marked { AreMarked marks.new bits.now }
+    ensures first { MatchOption result ((k : ℕ) → get_or bits.now k false ≡ false) (IsFirstWoken bits.now) }
 {
-    for place in from..bits.len() {
+    let mut place = from;
+    while place < bits.len() {
         if bits[place] {
             return Some(place);
         }
+        place = pass(bits, marks, place);
     }
     None
+}
+
+/// Goes on from a place at which there is false: to the next one, or to that behind the block where the
+/// block is not marked. The mark of a block that is left behind is taken away.
+fn pass(bits: &[bool], marks: &mut [bool], place: usize) -> usize
+    requires there { place < length bits.now }
+    requires here { get_or bits.now place false ≡ false }
+    requires marked { AreMarked marks.old bits.now }
+    requires resting { AreResting place bits.now }
+    ensures on { place < result }
+    ensures marked { AreMarked marks.new bits.now }
+    ensures resting { AreResting result bits.now }
+{
+    let block = place / BLOCK;
+    let end = block * BLOCK + BLOCK;
+    if !marks[block] {
+        return end;
+    }
+    if place + 1 == end {
+        marks[block] = false;
+    }
+    place + 1
+}
+
+/// Makes sure that the block of the place has a mark.
+fn reach(marks: &mut Vec<bool>, place: usize) -> Result<(), Memory>
+    requires { place ≤ 512 * length marks.old.items }
+    ensures reach { OnOk result (place < 512 * length marks.new.items) }
+    ensures longer { length marks.old.items ≤ length marks.new.items }
+    ensures unmarked { (block : ℕ) → get_or marks.new.items block false ≡ false → get_or marks.old.items block false ≡ false }
+{
+    if place / BLOCK >= marks.len() {
+        marks.push(true)?;
+    }
+    Ok(())
 }
 
 fn all_true(alloc: Global, count: usize) -> Result<Vec<bool>, Memory>
