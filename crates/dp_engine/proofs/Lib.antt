@@ -13,3 +13,5 @@ pub mod RosterLaws
 pub mod StepLaws
 pub mod TrackedLaws
 pub mod MarkLaws
+pub mod ReachLaws
+pub mod SeenLaws

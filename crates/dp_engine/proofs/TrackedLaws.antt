@@ -7,7 +7,7 @@ use Rattle.dp_parts.specs.Problems.{Csp, IsProblem, posed}
 use Rattle.dp_rule_clause.specs.NogoodLaws.{nogood_lawful}
 use Rattle.dp_rule_clause.specs.Nogoods.{face_nogood, scope_of}
 use Rattle.dp_engine.specs.declared.part_id.PartId.TheVariants.{Nogood}
-use Rattle.dp_engine.specs.Engines.{HaveCount, Propagation}
+use Rattle.dp_engine.specs.Engines.{Begins, HaveCount, Propagation}
 use Rattle.dp_engine.specs.Placed.{IsSound, Placed, of_constraints, turn_order}
 use Rattle.dp_engine.specs.Rosters.{Listed, all_placed, placed_at}
 use Rattle.dp_engine.specs.Woken.{IsIndex, IsTracked, Rest, entered, owed_of}
@@ -23,8 +23,8 @@ seen p ns past d ws = record { problem = p; nogoods = ns; past = past; present =
 
 -- at other states, with other parts woken
 pub tracked-moved : (p : Csp) (roster : Listed) (lists : List (List ℕ)) (past later : List Domains) (d e : Domains) (ws vs : List Bool) (was dead : Bool) → IsTracked (seen p roster.nogoods past d ws) roster lists ws was
-    → HaveCount (length p.initial) (later ++ e ∷ []) → length vs ≡ length ws → Rest (turn_order (posed p) roster.nogoods) vs e → dead ≡ is_dead e → IsTracked (seen p roster.nogoods later e vs) roster lists vs dead
-tracked-moved p roster lists past later d e ws vs was dead t states count rest known = record {
+    → HaveCount (length p.initial) (later ++ e ∷ []) → length vs ≡ length ws → Rest (turn_order (posed p) roster.nogoods) vs e → Begins (p.initial ∷ []) (later ++ e ∷ []) → dead ≡ is_dead e → IsTracked (seen p roster.nogoods later e vs) roster lists vs dead
+tracked-moved p roster lists past later d e ws vs was dead t states count rest start known = record {
   engine = record {
     problem = t.engine.problem;
     few = t.engine.few;
@@ -36,14 +36,15 @@ tracked-moved p roster lists past later d e ws vs was dead t states count rest k
   count = count ∙ t.count;
   index = t.index;
   rest = rest;
+  start = start;
   known = known;
 }
 
 -- a new engine, whose parts are all woken
-pub tracked-new : (p : Csp) (roster : Listed) (lists : List (List ℕ)) (past : List Domains) (d : Domains) (ws : List Bool) (dead : Bool) (ns : List (List Atomic)) (m k : ℕ) → IsProblem p → length ns < 2 ^ 32
-    → Each (AreOf p.initial) ns → roster.nogoods ≡ ns → all_placed roster ≡ turn_order (posed p) ns → past ≡ [] → d ≡ p.initial → m ≡ length p.initial → IsIndex m (all_placed roster) lists
+pub tracked-new : (p : Csp) (roster : Listed) (lists : List (List ℕ)) (past : List Domains) (d : Domains) (ws : List Bool) (dead : Bool) (ns : List (List Atomic)) (k : ℕ) → IsProblem p → length ns < 2 ^ 32
+    → Each (AreOf p.initial) ns → roster.nogoods ≡ ns → all_placed roster ≡ turn_order (posed p) ns → past ≡ [] → d ≡ p.initial → IsIndex (length p.initial) (turn_order (posed p) ns) lists
     → k ≡ length (all_placed roster) → length ws ≡ k → ((j : ℕ) → get_or ws j true ≡ true) → dead ≡ is_dead d → IsTracked (seen p roster.nogoods past d ws) roster lists ws dead
-tracked-new p roster lists past d ws dead ns m k kept few on en ep e0 ed em index ek ew all known =
+tracked-new p roster lists past d ws dead ns k kept few on en ep e0 ed index ek ew all known =
     let parts : all_placed roster ≡ turn_order (posed p) roster.nogoods = ep ∙ ap (turn_order (posed p)) (sym en) in
     let count : length ws ≡ length (turn_order (posed p) roster.nogoods) = ew ∙ ek ∙ ap (λ (qs : List Placed). length qs) parts in
     record {
@@ -56,8 +57,9 @@ tracked-new p roster lists past d ws dead ns m k kept few on en ep e0 ed em inde
       };
       parts = parts;
       count = count;
-      index = subst (λ (qs : List Placed). IsIndex (length p.initial) qs lists) parts (subst (λ n. IsIndex n (all_placed roster) lists) em index);
+      index = subst (λ (ms : List (List Atomic)). IsIndex (length p.initial) (turn_order (posed p) ms) lists) (sym en) index;
       rest = rest-none (turn_order (posed p) roster.nogoods) ws d all;
+      start = ([], ap (λ (ds : List Domains). ds ++ d ∷ []) e0 ∙ ap (λ (b : Domains). b ∷ []) ed);
       known = known;
     }
 
@@ -89,6 +91,7 @@ added_roster p roster lists past d ws dead n t few on =
       index = subst (λ (qs : List Placed). IsIndex (length p.initial) qs (entered lists (length (all_placed roster)) (scope_of n))) (sym more)
           (subst (λ k. IsIndex (length p.initial) (parts ++ q ∷ []) (entered lists k (scope_of n))) (sym as_many) (index-push (length p.initial) parts lists q t.index sound));
       rest = subst (λ (qs : List Placed). Rest qs (ws ++ true ∷ []) d) (sym more) (rest-push parts ws d q t.count t.rest);
+      start = t.start;
       known = t.known;
     }
 

@@ -5,3 +5,5 @@ pub mod Engines
 pub mod Rosters
 pub mod Trails
 pub mod Woken
+pub mod Reaches
+pub mod Indexes

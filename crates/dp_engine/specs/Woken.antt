@@ -9,7 +9,7 @@ use Rattle.dp_domain.specs.Turns.{turn_of}
 use Rattle.dp_engine.specs.declared.turn.Turn.{Turn}
 use Rattle.dp_engine.specs.declared.turn.Turn.TheVariants.{Atom, Clash, Quiet, Empty}
 use Rattle.dp_domain.specs.declared.found.Found.{Found}
-use Rattle.dp_engine.specs.Engines.{IsEngine, Propagation, parts_of}
+use Rattle.dp_engine.specs.Engines.{Begins, IsEngine, Propagation, parts_of, states}
 use Rattle.dp_engine.specs.Placed.{Placed}
 use Rattle.dp_engine.specs.Rosters.{Listed, all_placed}
 use Rattle.dp_engine.specs.Turns.{told, turn_at}
@@ -36,6 +36,10 @@ pub record IsIndex (n : ℕ) (parts : List Placed) (lists : List (List ℕ)) : T
 abbrev pub Rest : List Placed → List Bool → Domains → Type 0
 Rest parts woken d = (k : ℕ) (q : Placed) → slice_get parts k ≡ Some q → get_or woken k true ≡ false
     → (e : Domains) → length e ≡ length d → is_dead e ≡ false → AgreesOn q.face.scope d e → turn_of q.face e ≡ None
+
+-- these parts and more, which are woken
+abbrev pub IsGrown : List Bool → List Bool → Type 0
+IsGrown before now = (more : List Bool) × (now ≡ before ++ more) × Each (λ w. w ≡ true) more
 
 -- the parts at these places are woken too
 abbrev pub with_woken : List Bool → List ℕ → List Bool
@@ -93,13 +97,14 @@ abbrev pub ArePlaces : ℕ → List (List ℕ) → Type 0
 ArePlaces n lists = (x : ℕ) → Each (λ k. k < n) (get_or lists x [])
 
 -- what an engine keeps of its parts: they are those of the roster, the index has them by their variables, those that are not woken
--- have no turn, and it is known whether some variable has no value left
+-- have no turn, its states begin with the initial one, and it is known whether some variable has no value left
 pub record IsTracked (e : Propagation) (roster : Listed) (lists : List (List ℕ)) (woken : List Bool) (dead : Bool) : Type 0 where
   pub engine : IsEngine e
   pub parts : all_placed roster ≡ parts_of e
   pub count : length woken ≡ length (parts_of e)
   pub index : IsIndex (length e.problem.initial) (parts_of e) lists
   pub rest : Rest (parts_of e) woken e.present
+  pub start : Begins (e.problem.initial ∷ []) (states e)
   pub known : dead ≡ is_dead e.present
 
 -- the first place at which a part is woken

@@ -1,18 +1,19 @@
 // The engine: turn after turn over a problem and nogoods, and back again.
 
 ghost use Rattle.std.specs.Prelude.{◌≡◌, ℕ, ◌^◌, ◌+◌, ◌-◌, ◌<◌, ◌≤◌, not, [], ◌∷◌, ◌++◌, length, take, IfOk, MatchResult, OnOk, OnErr};
-ghost use Rattle.dp_base.specs.Lists.{Each};
 ghost use Rattle.dp_domain.specs.States.{AreOf, cut_all, is_dead};
 ghost use Rattle.dp_engine.specs.Engines.{Begins, Extends, HaveCount, IsEngine, KeepsParts, KeepsStates, Starts, parts_of, states};
+ghost use Rattle.dp_engine.specs.Indexes.{IsOver};
 ghost use Rattle.dp_engine.specs.Turns.{IsTurnAt, applied, atoms_of, turn_at};
 ghost use Rattle.dp_engine.specs.Trails.{all_of};
 ghost use Rattle.dp_engine.specs.Woken.{ArePlaces, IsCounted, IsFollowed, woken_after};
 
-use crate::occurrences::Occurrences;
+use crate::index::Index;
+use crate::reach::Reach;
 use crate::roster::Roster;
 use crate::search::first_turn;
 use crate::trail::Trail;
-use crate::woken::Woken;
+use crate::woken::{Woken, resize};
 use crate::{Atom, Memory, Nogood, Problem, State, Steps, Turn};
 use std::alloc::Global;
 use std::marker::Model;
@@ -22,16 +23,16 @@ use std::sync::ledger::Ledger;
 /// present one last. Of the parts those alone are asked that are woken: one that had no turn rests until
 /// the set of one of its variables changes.
 #[derive(Drop)]
-pub struct Engine<'p> {
+pub struct Engine<'i, 'p> {
     problem: &'p Problem,
-    roster: Roster<'p>,
-    occurrences: Occurrences,
+    roster: Roster<'i, 'p>,
+    occurrences: Reach<'i>,
     woken: Woken,
     trail: Trail,
     dead: bool,
 }
 
-impl<'p> Model for Engine<'p> {
+impl<'i, 'p> Model for Engine<'i, 'p> {
     ghost use Rattle.dp_engine.specs.Engines.{Propagation};
     ghost use Rattle.dp_engine.specs.Woken.{IsTracked, owed_of};
 
@@ -42,20 +43,14 @@ impl<'p> Model for Engine<'p> {
     ghost invariant = { λ e. IsTracked (record { problem = e.problem.now; nogoods = e.roster.nogoods; past = e.trail.past; present = e.trail.present; owed = owed_of e.woken }) e.roster e.occurrences e.woken e.dead };
 }
 
-impl<'p> Engine<'p> {
-    /// An engine at the initial state of the problem, with these nogoods.
-    pub fn new(
-        alloc: Global,
-        problem: &'p Problem,
-        nogoods: &'p [Nogood],
-    ) -> Result<Engine<'p>, Memory>
-        requires few { length nogoods.now < 2 ^ 32 }
-        requires nogoods { Each (AreOf problem.now.initial) nogoods.now }
-        ensures { IfOk result (Starts problem.now nogoods.now) }
+impl<'i, 'p> Engine<'i, 'p> {
+    /// An engine at the initial state of the index's problem, with all its nogoods.
+    pub fn new(alloc: Global, index: &'i Index<'p>) -> Result<Engine<'i, 'p>, Memory>
+        ensures { IfOk result (Starts index.now.problem index.now.nogoods) }
     {
-        let roster = Roster::new(alloc, problem, nogoods)?;
+        let problem = index.problem();
+        let (roster, occurrences) = index.before(alloc, index.nogoods().len());
         let present = problem.initial().copy()?;
-        let occurrences = roster.occurrences(alloc, present.len())?;
         let woken = Woken::all(alloc, roster.len())?;
         let dead = present.dead();
         Ok(Engine {
@@ -66,6 +61,34 @@ impl<'p> Engine<'p> {
             trail: Trail::new(alloc, present),
             dead,
         })
+    }
+
+    /// Goes back to the initial state, where it sees the nogoods of the index before the place alone. The
+    /// parts that rest and are seen go on to rest.
+    pub fn go_to(&mut self, index: &'i Index<'p>, place: usize) -> Result<(), Memory>
+        requires over { IsOver index.now self.old }
+        requires place { place ≤ length index.now.nogoods }
+        ensures starts { OnOk result (Starts index.now.problem (take place index.now.nogoods) self.new) }
+        ensures unchanged { OnErr result (KeepsParts self.old self.new) }
+    {
+        self.undo(0);
+        self.see_first(index, place)
+    }
+
+    /// Sees the nogoods of the index before the place alone.
+    fn see_first(&mut self, index: &'i Index<'p>, place: usize) -> Result<(), Memory>
+        requires over { IsOver index.now self.old }
+        requires place { place ≤ length index.now.nogoods }
+        requires start { self.old.past ≡ [] }
+        ensures starts { OnOk result (Starts index.now.problem (take place index.now.nogoods) self.new) }
+        ensures unchanged { OnErr result (KeepsParts self.old self.new) }
+    {
+        let alloc = self.trail.present().allocator();
+        let (roster, occurrences) = index.before(alloc, place);
+        resize(&mut self.woken, roster.len())?;
+        self.roster = roster;
+        self.occurrences = occurrences;
+        Ok(())
     }
 
     /// The present state.
@@ -171,7 +194,7 @@ impl<'p> Engine<'p> {
 fn cut_each(
     trail: &mut Trail,
     woken: &mut Woken,
-    occurrences: &Occurrences,
+    occurrences: &Reach,
     atoms: &[Atom],
 ) -> Result<(), Memory>
     requires atoms { AreOf trail.old.present atoms.now }
@@ -184,13 +207,13 @@ fn cut_each(
 {
     for atom in atoms {
         trail.cut(*atom)?;
-        woken.wake_each(occurrences.on(atom.var()));
+        occurrences.wake(atom.var(), woken);
     }
     Ok(())
 }
 
 /// Goes back to the state at the mark, and wakes the parts on each variable whose set is put back.
-fn go_back(trail: &mut Trail, woken: &mut Woken, occurrences: &Occurrences, mark: usize)
+fn go_back(trail: &mut Trail, woken: &mut Woken, occurrences: &Reach, mark: usize)
     requires mark { mark ≤ length trail.old.past }
     requires lists { length occurrences.now ≡ length trail.old.present }
     requires places { ArePlaces (length woken.old) occurrences.now }
@@ -199,7 +222,7 @@ fn go_back(trail: &mut Trail, woken: &mut Woken, occurrences: &Occurrences, mark
 {
     while trail.len() > mark {
         let var = trail.back();
-        woken.wake_each(occurrences.on(var));
+        occurrences.wake(var, woken);
     }
 }
 
@@ -208,7 +231,7 @@ fn go_back(trail: &mut Trail, woken: &mut Woken, occurrences: &Occurrences, mark
 fn apply(
     trail: &mut Trail,
     woken: &mut Woken,
-    occurrences: &Occurrences,
+    occurrences: &Reach,
     place: usize,
     turn: &Turn,
 ) -> Result<(), Memory>
@@ -227,7 +250,7 @@ fn apply(
         Turn::Atom(_, given) => {
             trail.cut(*given)?;
             woken.rest(place);
-            woken.wake_each(occurrences.on(given.var()));
+            occurrences.wake(given.var(), woken);
             Ok(())
         }
         Turn::Clash(_) | Turn::Quiet | Turn::Empty => Ok(()),

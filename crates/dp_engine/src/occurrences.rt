@@ -78,6 +78,13 @@ impl Occurrences {
         Ok(Occurrences { lists })
     }
 
+    /// The number of variables.
+    pub fn len(&self) -> usize
+        ensures { result ≡ length self.now }
+    {
+        self.lists.len()
+    }
+
     /// The places of the parts on the variable.
     pub fn on(&self, var: VarId) -> &[usize]
         requires { var < length self.now }

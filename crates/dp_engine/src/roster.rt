@@ -7,12 +7,13 @@ ghost use Rattle.dp_domain.specs.States.{is_dead};
 ghost use Rattle.dp_domain.specs.Turns.{turn_of};
 ghost use Rattle.dp_parts.specs.Problems.{labelled, posed};
 ghost use Rattle.dp_rule_clause.specs.Nogoods.{scope_of};
-ghost use Rattle.dp_engine.specs.Placed.{AreSound, Placed, of_constraint, turn_order};
+ghost use Rattle.dp_engine.specs.Placed.{AreSound, Placed, of_constraint, of_constraints};
 ghost use Rattle.dp_engine.specs.Rosters.{all_placed, placed_at};
 ghost use Rattle.dp_engine.specs.Turns.{told};
 ghost use Rattle.dp_engine.specs.Woken.{IsIndex, entered};
 
 use crate::occurrences::Occurrences;
+use crate::reach::Reach;
 use crate::trail::push_reserved;
 use crate::{Nogood, PartId, Problem, Turn};
 use dp_domain::{Found, Memory, Rule, State, Steps};
@@ -23,51 +24,41 @@ use std::sync::ledger::Ledger;
 
 /// A part of the model, with its place.
 #[derive(Clone, Copy)]
-struct Entry<'p> {
+pub struct Entry<'p> {
     id: PartId,
     part: &'p Part,
 }
 
 /// The parts of the model in order, and the nogoods: those that were given, and those that were added.
 #[derive(Drop)]
-pub struct Roster<'p> {
-    model: Vec<Entry<'p>>,
+pub struct Roster<'i, 'p> {
+    model: &'i [Entry<'p>],
     given: &'p [Nogood],
     added: Vec<Nogood>,
 }
 
-impl<'p> Model for Roster<'p> {
+impl<'i, 'p> Model for Roster<'i, 'p> {
     ghost use Rattle.std.specs.Prelude.{◌++◌, ◌^◌, ◌<◌, length, map};
     ghost use Rattle.dp_engine.specs.Rosters.{Listed};
 
     ghost Value = { Listed };
 
-    ghost view = { λ r. record { model = map (λ e. (e.id, e.part.now)) r.model.items; nogoods = r.given.now ++ r.added.items } };
+    ghost view = { λ r. record { model = map (λ e. (e.id, e.part.now)) r.model.now; nogoods = r.given.now ++ r.added.items } };
 
     ghost invariant = { λ r. length (r.given.now ++ r.added.items) < 2 ^ 32 };
 }
 
-impl<'p> Roster<'p> {
-    /// The parts of the problem, and these nogoods.
-    pub fn new(
-        alloc: Global,
-        problem: &'p Problem,
-        nogoods: &'p [Nogood],
-    ) -> Result<Roster<'p>, Memory>
+impl<'i, 'p> Roster<'i, 'p> {
+    /// The parts of the model, and these nogoods.
+    pub fn new(alloc: Global, model: &'i [Entry<'p>], nogoods: &'p [Nogood]) -> Roster<'i, 'p>
         requires { length nogoods.now < 2 ^ 32 }
-        ensures nogoods { IfOk result (λ roster. roster.nogoods ≡ nogoods.now) }
-        ensures parts { IfOk result (λ roster. all_placed roster ≡ turn_order (posed problem.now) nogoods.now) }
+        ensures { result ≡ record { model = map (λ e. (e.id, e.part.now)) model.now; nogoods = nogoods.now } }
     {
-        let mut model = Vec::new(alloc);
-        for constraint in 0..problem.constraint_count() {
-            let parts = problem.parts_of(constraint);
-            push_parts(&mut model, constraint as u32, parts)?;
-        }
-        Ok(Roster {
+        Roster {
             model,
             given: nogoods,
             added: Vec::new(alloc),
-        })
+        }
     }
 
     /// The number of parts.
@@ -79,7 +70,7 @@ impl<'p> Roster<'p> {
 
     /// Adds a nogood behind the others, and enters it among the parts on its variables. Want of memory
     /// leaves all as it was.
-    pub fn add(&mut self, nogood: Nogood, occurrences: &mut Occurrences) -> Result<(), Memory>
+    pub fn add(&mut self, nogood: Nogood, occurrences: &mut Reach) -> Result<(), Memory>
         requires few { length self.old.nogoods < 2 ^ 32 - 1 }
         requires variables { Each (λ x. x < length occurrences.old) (scope_of nogood) }
         ensures model { self.new.model ≡ self.old.model }
@@ -90,7 +81,8 @@ impl<'p> Roster<'p> {
     {
         let place = self.len();
         self.added.reserve(1)?;
-        occurrences.enter(&nogood, place)?;
+        let alloc = *self.added.allocator();
+        occurrences.enter(alloc, &nogood, place)?;
         push_reserved(&mut self.added, nogood);
         Ok(())
     }
@@ -109,7 +101,7 @@ impl<'p> Roster<'p> {
         ensures ticked { steps.new ≡ steps.old + 1 }
     {
         if place < self.model.len() {
-            let entry = entry_at(self.model.as_slice(), place);
+            let entry = entry_at(self.model, place);
             let found = entry.part.next(state, steps)?;
             Ok(told_if(entry.id, found))
         } else {
@@ -127,7 +119,7 @@ impl<'p> Roster<'p> {
         ensures entered { (q : Placed) → slice_get (all_placed self.now) place ≡ Some q → OnOk result (occurrences.new ≡ entered occurrences.old place q.face.scope) }
     {
         if place < self.model.len() {
-            let entry = entry_at(self.model.as_slice(), place);
+            let entry = entry_at(self.model, place);
             occurrences.enter(entry.part, place)
         } else {
             let at = place - self.model.len();
@@ -147,6 +139,18 @@ impl<'p> Roster<'p> {
         }
         Ok(occurrences)
     }
+}
+
+/// The parts of the problem's model, with their places.
+pub fn entries<'p>(alloc: Global, problem: &'p Problem) -> Result<Vec<Entry<'p>>, Memory>
+    ensures { IfOk result (λ model. map placed_at (map (λ e. (e.id, e.part.now)) model.items) ≡ of_constraints 0 (posed problem.now).constraints) }
+{
+    let mut model = Vec::new(alloc);
+    for constraint in 0..problem.constraint_count() {
+        let parts = problem.parts_of(constraint);
+        push_parts(&mut model, constraint as u32, parts)?;
+    }
+    Ok(model)
 }
 
 /// The parts of one constraint, behind those that are there.

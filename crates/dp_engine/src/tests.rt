@@ -4,6 +4,7 @@ ghost use Rattle.indexmap.specs.IndexMap.{insert_entry};
 ghost use Rattle.dp_base.specs.Lists.{Each};
 ghost use Rattle.dp_domain.specs.States.{AreOf};
 ghost use Rattle.dp_engine.specs.Engines.{KeepsParts};
+ghost use Rattle.dp_engine.specs.Indexes.{IsOver};
 ghost use Rattle.dp_parts.specs.Parts.{face_of};
 
 use super::*;
@@ -296,7 +297,8 @@ fn runs(
     requires nogoods { Each (AreOf problem.now.initial) nogoods.now }
     requires two { length problem.now.initial ≡ 2 }
 {
-    let mut engine = Engine::new(alloc, problem, nogoods)?;
+    let index = Index::new(alloc, problem, nogoods)?;
+    let mut engine = Engine::new(alloc, &index)?;
     let atoms = atoms_of(alloc, used)?;
     let _alive = engine.assume(atoms.as_slice())?;
     takes(&mut engine, rows)
@@ -398,7 +400,8 @@ fn runs_after(
 ) -> Result<bool, Memory> {
     let problem = without_turns(alloc)?;
     let nogoods = [nogood_of(alloc, given)?];
-    let mut engine = Engine::new(alloc, &problem, &nogoods)?;
+    let index = Index::new(alloc, &problem, &nogoods)?;
+    let mut engine = Engine::new(alloc, &index)?;
     let _alive = there_and_back(alloc, &mut engine, way)?;
     let nogood = nogood_of(alloc, added)?;
     engine.add(nogood)?;
@@ -451,11 +454,57 @@ fn a_nogood_waits_again_after_its_turn_is_undone(rt: HostRuntime) -> Result<(), 
     let alloc = rt.alloc();
     let problem = without_turns(alloc)?;
     let nogoods = [nogood_of(alloc, &[(0, Op::Ge, 1), (0, Op::Le, 4), (1, Op::Ge, 1)])?];
-    let mut engine = Engine::new(alloc, &problem, &nogoods)?;
+    let index = Index::new(alloc, &problem, &nogoods)?;
+    let mut engine = Engine::new(alloc, &index)?;
     let waits: (&[Used], &[Row]) = (&[(1, Op::Ge, 1)], &[Row::Quiet]);
     let turns = [Row::Gives(PartId::Nogood(0), (0, Op::Ge, 5)), Row::Quiet];
     let gives: (&[Used], &[Row]) = (&[(0, Op::Ge, 1)], &turns);
     assert!(rt; goes_and_comes(alloc, &mut engine, waits, gives)?);
     assert!(rt; goes_and_comes(alloc, &mut engine, waits, gives)?);
+    Ok(())
+}
+
+// Goes to the place and on by the atoms, and answers whether the next turns are these.
+fn goes_to<'i, 'p>(
+    alloc: Global,
+    index: &'i Index<'p>,
+    engine: &mut Engine<'i, 'p>,
+    place: usize,
+    way: (&[Used], &[Row]),
+) -> Result<bool, Memory>
+    requires over { IsOver index.now engine.old }
+    requires place { place ≤ length index.now.nogoods }
+    requires two { length index.now.problem.initial ≡ 2 }
+    ensures { IsOver index.now engine.new }
+{
+    engine.go_to(index, place)?;
+    goes_on(alloc, engine, way.0, way.1)
+}
+
+#[test]
+fn nogoods_from_the_place_on_are_not_seen(rt: HostRuntime) -> Result<(), Fail> {
+    let alloc = rt.alloc();
+    let problem = without_turns(alloc)?;
+    let nogoods = [
+        nogood_of(alloc, &[(0, Op::Ge, 5), (1, Op::Ge, 1)])?,
+        nogood_of(alloc, &[(1, Op::Le, 0)])?,
+    ];
+    let index = Index::new(alloc, &problem, &nogoods)?;
+    let mut engine = Engine::new(alloc, &index)?;
+    let first = Row::Gives(PartId::Nogood(0), (0, Op::Le, 2));
+    let second = Row::Gives(PartId::Nogood(1), (1, Op::Ge, 1));
+    let one = [(1, Op::Ge, 1)];
+    assert!(rt; goes_to(alloc, &index, &mut engine, 1, (&one, &[first, Row::Quiet]))?);
+    assert!(rt; goes_to(alloc, &index, &mut engine, 0, (&one, &[Row::Quiet]))?);
+    assert!(rt;
+        goes_to(
+            alloc,
+            &index,
+            &mut engine,
+            2,
+            (&[], &[second, first, Row::Quiet])
+        )?
+    );
+    assert!(rt; goes_to(alloc, &index, &mut engine, 1, (&[], &[Row::Quiet]))?);
     Ok(())
 }

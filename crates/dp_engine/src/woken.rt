@@ -1,8 +1,9 @@
 // Which parts are woken.
 
-ghost use Rattle.std.specs.Prelude.{◌≡◌, ℕ, ◌*◌, ◌<◌, ◌≤◌, Bool, true, false, List, [], ◌∷◌, ◌++◌, length, get_or, slice_set, IfOk, MatchOption, OnErr, OnOk};
+ghost use Rattle.std.specs.Prelude.{◌≡◌, ℕ, ◌*◌, ◌<◌, ◌≤◌, Bool, true, false, List, [], ◌∷◌, ◌++◌, length, take, get_or, slice_set, IfOk, MatchOption, OnErr, OnOk};
 ghost use Rattle.dp_base.specs.Lists.{Each};
-ghost use Rattle.dp_engine.specs.Woken.{AreMarked, AreResting, IsFirstWoken, with_woken};
+ghost use Rattle.dp_engine.specs.Reaches.{below};
+ghost use Rattle.dp_engine.specs.Woken.{AreMarked, AreResting, IsFirstWoken, IsGrown, with_woken};
 
 use dp_domain::Memory;
 use std::alloc::Global;
@@ -87,6 +88,16 @@ impl Woken {
         self.lowest = self.lowest.min(place);
     }
 
+    /// Wakes the part at the place, where it is below the bound.
+    fn wake_if_below(&mut self, place: usize, bound: usize)
+        requires { place < bound → place < length self.old }
+        ensures { self.new ≡ with_woken self.old (below bound (place ∷ [])) }
+    {
+        if place < bound {
+            self.wake(place);
+        }
+    }
+
     /// Puts a part to rest.
     pub fn rest(&mut self, place: usize)
         requires { place < length self.old }
@@ -104,6 +115,57 @@ impl Woken {
             self.wake(*place);
         }
     }
+
+    /// Wakes the parts at those of these places that are below the bound.
+    pub fn wake_below(&mut self, places: &[usize], bound: usize)
+        requires { Each (λ k. k < length self.old) (below bound places.now) }
+        ensures { self.new ≡ with_woken self.old (below bound places.now) }
+    {
+        for place in places {
+            self.wake_if_below(*place, bound);
+        }
+    }
+
+    /// The number of parts.
+    fn len(&self) -> usize
+        ensures { result ≡ length self.now }
+    {
+        self.bits.len()
+    }
+
+    /// Without the parts behind so many.
+    fn cut(&mut self, count: usize)
+        ensures { self.new ≡ take count self.old }
+    {
+        self.bits.truncate(count);
+    }
+}
+
+/// So many parts: the first ones as they were, and any others woken. Want of memory leaves all as it was.
+pub fn resize(woken: &mut Woken, count: usize) -> Result<(), Memory>
+    ensures count { OnOk result (length woken.new ≡ count) }
+    ensures kept { (k : ℕ) → get_or woken.new k true ≡ false → get_or woken.old k true ≡ false }
+    ensures unchanged { OnErr result (woken.new ≡ woken.old) }
+{
+    let before = woken.len();
+    let grown = grow(woken, count);
+    if grown.is_err() {
+        woken.cut(before);
+        return Err(Memory);
+    }
+    woken.cut(count);
+    Ok(())
+}
+
+/// Adds parts that are woken, up to so many.
+fn grow(woken: &mut Woken, count: usize) -> Result<(), Memory>
+    ensures count { OnOk result (count ≤ length woken.new) }
+    ensures grown { IsGrown woken.old woken.new }
+{
+    while woken.len() < count {
+        woken.push()?;
+    }
+    Ok(())
 }
 
 /// The first place from one on at which there is true. The marks of blocks that are passed whole are

@@ -182,3 +182,7 @@ module _ (first e f : Propagation) (turns now : List RunTurn) (end : Option Turn
   pub step-end : (last : Turn) → end ≡ Some last → (map (seen_among (states f)) now ≡ map seen (run (parts_of first) first.present)) × (last ≡ run_end (parts_of first) first.present)
   step-end last some =
       along-end (length first.problem.initial) (parts_of first) first.present e.present (map (seen_among (states e)) turns) (map (seen_among (states f)) now) end last h.sound h.along told_so some seen_so
+
+-- parts that are kept twice are kept
+pub keeps-more : (first before now : Propagation) → KeepsParts first before → KeepsParts before now → KeepsParts first now
+keeps-more first before now h k = record { problem = k.problem ∙ h.problem; nogoods = k.nogoods ∙ h.nogoods }

@@ -3,7 +3,7 @@
 ghost use Rattle.std.specs.Prelude.{◌≡◌, ℕ, ◌<◌, ◌&&◌, not, length, map, ℤ, IfOk, OnOk};
 ghost use Rattle.dp_base.specs.Lists.{Each};
 ghost use Rattle.dp_domain.specs.States.{AreOf};
-ghost use Rattle.dp_engine.specs.Engines.{states};
+ghost use Rattle.dp_engine.specs.Engines.{KeepsParts, states};
 ghost use Rattle.dp_parts.specs.Problems.{posed};
 ghost use Rattle.dp_justify.specs.Keeping.{before_turn, is_kept, kept, without};
 ghost use Rattle.dp_justify.specs.Pairs.{pairs_of};
@@ -29,7 +29,8 @@ pub(crate) fn kept_turns(
 ) -> Result<Vec<Kept>, Memory>
     requires trail { IsTrail (states engine.old) turns.items }
     requires turns { Each (IsRunTurn (posed problem.now) nogoods.now) (map (seen_among (states engine.old)) turns.items) }
-    ensures { IfOk result (λ steps. steps.items ≡ map step_of (kept problem.now.initial (map (explained_of (posed problem.now) nogoods.now) (map (seen_among (states engine.old)) turns.items)))) }
+    ensures parts { KeepsParts engine.old engine.new }
+    ensures kept { IfOk result (λ steps. steps.items ≡ map step_of (kept problem.now.initial (map (explained_of (posed problem.now) nogoods.now) (map (seen_among (states engine.old)) turns.items)))) }
 {
     let initial = problem.initial();
     let mut gone = nothing(initial.allocator(), initial.len())?;

@@ -7,6 +7,7 @@ ghost use Rattle.dp_parts.specs.Parts.{face_of};
 
 use super::*;
 use dp_domain::{Atom, Dom, Memory, Name, Op, State, Test, VarId};
+use dp_engine::{Engine, Index};
 use dp_parts::{Goal, Part, Parts, Problem};
 use dp_rule_clause::Nogood;
 use dp_rule_linear::{LinLe, LinNe};
@@ -245,7 +246,10 @@ fn justifies(
     requires few { length nogoods.now < 2 ^ 32 }
     requires nogoods { Each (AreOf problem.now.initial) nogoods.now }
 {
-    match justify(problem, nogoods, nogoods.len() - 1)? {
+    let alloc = problem.initial().allocator();
+    let index = Index::new(alloc, problem, nogoods)?;
+    let mut engine = Engine::new(alloc, &index)?;
+    match justify(&index, &mut engine, nogoods.len() - 1)? {
         Some(piece) => is_piece(&piece, rows, uses),
         None => Ok(false),
     }
@@ -282,7 +286,9 @@ fn two_inequalities_are_refuted_in_seven_steps(rt: HostRuntime) -> Result<(), Fa
 fn what_does_not_follow_has_no_justification(rt: HostRuntime) -> Result<(), Fail> {
     let problem = four_that_differ(rt.alloc())?;
     let nogoods = [nogood_of(rt.alloc(), &[])?];
-    assert!(rt; justify(&problem, &nogoods, 0)?.is_none());
+    let index = Index::new(rt.alloc(), &problem, &nogoods)?;
+    let mut engine = Engine::new(rt.alloc(), &index)?;
+    assert!(rt; justify(&index, &mut engine, 0)?.is_none());
     Ok(())
 }
 

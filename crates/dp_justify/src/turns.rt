@@ -26,6 +26,7 @@ pub struct RunTurn {
 /// before each turn on its trail.
 pub(crate) fn run_turns(engine: &mut Engine) -> Result<(Vec<RunTurn>, Turn), Memory>
     requires { IsProblem engine.old.problem }
+    ensures parts { KeepsParts engine.old engine.new }
     ensures turns { IfOk result (λ found. map (seen_among (states engine.new)) found.0.items ≡ map seen (run (parts_of engine.old) engine.old.present)) }
     ensures trail { IfOk result (λ found. IsTrail (states engine.new) found.0.items) }
     ensures end { IfOk result (λ found. found.1 ≡ run_end (parts_of engine.old) engine.old.present) }
@@ -42,6 +43,7 @@ fn counted_turns<L: Ledger>(
     requires name { blank.name ≡ L.name }
     requires parts { blank.parts ≡ L.parts }
     requires some { 0 < blank.parts }
+    ensures parts { KeepsParts engine.old engine.new }
     ensures turns { IfOk result (λ found. map (seen_among (states engine.new)) found.0.items ≡ map seen (run (parts_of engine.old) engine.old.present)) }
     ensures trail { IfOk result (λ found. IsTrail (states engine.new) found.0.items) }
     ensures end { IfOk result (λ found. found.1 ≡ run_end (parts_of engine.old) engine.old.present) }

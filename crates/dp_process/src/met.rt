@@ -4,12 +4,14 @@ ghost use Rattle.std.specs.Prelude.{◌≡◌, ℕ, ◌-◌, ◌==◌, ◌^◌, 
 ghost use Rattle.std.specs.List.{list_any};
 ghost use Rattle.dp_base.specs.Lists.{Each};
 ghost use Rattle.dp_domain.specs.States.{AreOf};
+ghost use Rattle.dp_engine.specs.Indexes.{IsOver};
 ghost use Rattle.dp_justify.specs.Pieces.{justification};
-ghost use Rattle.dp_parts.specs.Problems.{IsProblem, posed};
+ghost use Rattle.dp_parts.specs.Problems.{posed};
 ghost use Rattle.dp_process.specs.Met.{uses_at};
 ghost use Rattle.dp_process.specs.Marks.{AreMarked, IsJustified, outcome_of};
 
 use dp_base::Memory;
+use dp_engine::{Engine, Index};
 use dp_justify::{Piece, justify};
 use dp_parts::Problem;
 use dp_rule_clause::Nogood;
@@ -47,11 +49,13 @@ pub(crate) fn justify_met(
     // What a problem keeps is known by a look at it.
     let _initial = problem.initial();
     let count = nogoods.len();
+    let index = Index::new(alloc, problem, nogoods)?;
+    let mut engine = Engine::new(alloc, &index)?;
     let mut marks = first_marks(alloc, count)?;
     let mut pieces = Vec::new(alloc);
     for above in 0..count {
         let place = count - 1 - above;
-        match justify_place(problem, nogoods, &mut marks, place)? {
+        match justify_place(&index, &mut engine, &mut marks, place)? {
             Outcome::Passes(piece) => pieces.push(piece)?,
             Outcome::Fails => return Ok(Justified::Failing(place)),
         }
@@ -71,25 +75,26 @@ fn first_marks(alloc: Global, count: usize) -> Result<Vec<bool>, Memory>
 }
 
 /// Justifies the nogood at the place, where it is marked, and marks those that its justification uses.
-fn justify_place(
-    problem: &Problem,
-    nogoods: &[Nogood],
+fn justify_place<'i, 'p>(
+    index: &'i Index<'p>,
+    engine: &mut Engine<'i, 'p>,
     marks: &mut Vec<bool>,
     place: usize,
 ) -> Result<Outcome, Memory>
-    requires problem { IsProblem problem.now }
-    requires place { place < length nogoods.now }
-    requires few { length nogoods.now < 2 ^ 32 }
-    requires nogoods { Each (AreOf problem.now.initial) nogoods.now }
-    requires marks { length marks.old.items ≡ length nogoods.now }
+    requires over { IsOver index.now engine.old }
+    requires place { place < length index.now.nogoods }
+    requires marks { length marks.old.items ≡ length index.now.nogoods }
+    ensures over { IsOver index.now engine.new }
     ensures count { length marks.new.items ≡ length marks.old.items }
-    ensures outcome { IfOk result (λ outcome. outcome ≡ outcome_of (slice_index_or marks.old.items place false) (justification (posed problem.now) nogoods.now place)) }
-    ensures marks { OnOk result (AreMarked marks.new.items (λ i. slice_index_or marks.old.items i false || (slice_index_or marks.old.items place false && list_any (nat_eq i) (uses_at (posed problem.now) nogoods.now place)))) }
+    ensures outcome { IfOk result (λ outcome. outcome ≡ outcome_of (slice_index_or marks.old.items place false) (justification (posed index.now.problem) index.now.nogoods place)) }
+    ensures marks { OnOk result (AreMarked marks.new.items (λ i. slice_index_or marks.old.items i false || (slice_index_or marks.old.items place false && list_any (nat_eq i) (uses_at (posed index.now.problem) index.now.nogoods place)))) }
 {
+    // What an index keeps is known by a look at it.
+    let _problem = index.problem();
     if !marks[place] {
         return Ok(Outcome::Passes(None));
     }
-    match justify(problem, nogoods, place)? {
+    match justify(index, engine, place)? {
         Some(piece) => {
             mark(marks, piece.uses.as_slice());
             Ok(Outcome::Passes(Some(piece)))

@@ -1,6 +1,6 @@
 // Solving a problem.
 
-ghost use Rattle.std.specs.Prelude.{◌≡◌, ◌≤◌, ◌^◌, IfOk, OnErr, length};
+ghost use Rattle.std.specs.Prelude.{◌≡◌, ◌≤◌, ◌^◌, [], IfOk, OnErr, length};
 ghost use Rattle.dp_desk.specs.Channel.{Channel, IsOpen};
 ghost use Rattle.dp_desk.specs.Sight.{output, with_output};
 ghost use Rattle.dp_domain.specs.States.{AreOf, cut_all};
@@ -17,7 +17,7 @@ use crate::{Outcome, SolveFault};
 use dp_base::Memory;
 use dp_desk::{Desk, Out};
 use dp_domain::Atom;
-use dp_engine::Engine;
+use dp_engine::{Engine, Index};
 use dp_parts::{Goal, Problem};
 use dp_writer::Writer;
 use std::alloc::Global;
@@ -79,19 +79,21 @@ pub fn solve_cut<D: Desk>(
         goal,
         most: conflicts,
     };
-    let mut search = start(&task)?;
+    let index = Index::new(alloc, problem, &[])?;
+    let mut search = start(&task, &index)?;
     search_on(&task, &mut search, desk, out)
 }
 
 /// A search that stands at the initial domains.
-fn start<'p>(task: &Task<'p>) -> Result<Search<'p>, Memory>
+fn start<'i, 'p>(task: &Task<'p>, index: &'i Index<'p>) -> Result<Search<'i, 'p>, Memory>
+    requires index { index.now ≡ record { problem = task.now.problem.now; nogoods = [] } }
     requires atoms { AreOf task.now.problem.now.initial task.now.atoms.now }
     requires goal { IsGoalOf (length task.now.problem.now.initial) task.now.goal }
     ensures { IfOk result (IsFresh (asked task.now)) }
 {
     // What a problem keeps is known by a look at it.
     let _goal = task.problem.goal();
-    let mut engine = Engine::new(task.alloc, task.problem, &[])?;
+    let mut engine = Engine::new(task.alloc, index)?;
     engine.assume(task.atoms)?;
     let root = engine.mark();
     Ok(Search {

@@ -20,8 +20,8 @@ pub(crate) struct Task<'p> {
 
 /// The engine, the mark of the initial domains in it, the writer, and how many nogoods were learned.
 #[derive(Drop)]
-pub(crate) struct Search<'p> {
-    pub engine: Engine<'p>,
+pub(crate) struct Search<'i, 'p> {
+    pub engine: Engine<'i, 'p>,
     pub root: usize,
     pub writer: Writer,
     pub learned: u64,

@@ -11,19 +11,18 @@ use Rattle.dp_engine.proofs.engine.cut_each.Goals as goal
 pub returns-in_err-cut-clause-counts : goal.returns-in_err-cut-clause-counts
 returns-in_err-cut-clause-counts c = λ n h. c.cut.ensures.counts n (c.loop-atom.invariant.counts n h)
 
-pub wake_each-requires : goal.wake_each-requires
-wake_each-requires c =
-    subst (λ (ks : List ℕ). Each (λ k. k < length c.loop-atom.woken) ks) (sym c.on.ensures)
-    (subst (λ n. Each (λ k. k < n) (get_or c.args.occurrences.now c.var.result [])) (sym c.loop-atom.invariant.followed.bits) (c.requires.places c.var.result))
+pub wake-requires-clause-places : goal.wake-requires-clause-places
+wake-requires-clause-places c =
+    subst (λ n. Each (λ k. k < n) (get_or c.args.occurrences.now c.var.result [])) (sym c.loop-atom.invariant.followed.bits) (c.requires.places c.var.result)
 
 pub loop-atom-preserved : goal.loop-atom-preserved
 loop-atom-preserved c =
     let there : c.loop-atom.atom-index < length c.args.atoms.now = omega (arith, c.loop-atom-test.true) in
     let present = c.in_ok-cut.ensures.present in
     record {
-      followed = followed-then c.args.occurrences.now c.args.woken.now c.loop-atom.woken c.wake_each.new.self c.args.trail.now.present c.loop-atom.trail.present c.cut.new.self.present c.loop-atom.invariant.followed
-          (followed-change c.args.occurrences.now c.loop-atom.woken c.wake_each.new.self c.loop-atom.trail.present c.cut.new.self.present c.atom-item.result.var
-          (c.wake_each.ensures ∙ ap (with_woken c.loop-atom.woken) (c.on.ensures ∙ ap (λ x. get_or c.args.occurrences.now x []) c.var.ensures))
+      followed = followed-then c.args.occurrences.now c.args.woken.now c.loop-atom.woken c.wake.new.woken c.args.trail.now.present c.loop-atom.trail.present c.cut.new.self.present c.loop-atom.invariant.followed
+          (followed-change c.args.occurrences.now c.loop-atom.woken c.wake.new.woken c.loop-atom.trail.present c.cut.new.self.present c.atom-item.result.var
+          (c.wake.ensures ∙ ap (λ x. with_woken c.loop-atom.woken (get_or c.args.occurrences.now x [])) c.var.ensures)
           (ap (λ (d : Domains). length d) present ∙ length-cut c.loop-atom.trail.present c.atom-item.result)
           (λ y h. ap (λ (d : Domains). values d y) present ∙ values-cut_other c.loop-atom.trail.present c.atom-item.result y h));
       counts = λ n h. c.cut.ensures.counts n (c.loop-atom.invariant.counts n h);

@@ -7,10 +7,9 @@ use Rattle.dp_engine.proofs.TrailLaws.{take-back}
 use Rattle.dp_engine.proofs.WokenLaws.{followed-change, followed-then}
 use Rattle.dp_engine.proofs.engine.go_back.Goals as goal
 
-pub wake_each-requires : goal.wake_each-requires
-wake_each-requires c =
-    subst (λ (ks : List ℕ). Each (λ k. k < length c.loop-trail.woken) ks) (sym c.on.ensures)
-    (subst (λ n. Each (λ k. k < n) (get_or c.args.occurrences.now c.back-var.result [])) (sym c.loop-trail.invariant.followed.bits) (c.requires.places c.back-var.result))
+pub wake-requires-clause-places : goal.wake-requires-clause-places
+wake-requires-clause-places c =
+    subst (λ n. Each (λ k. k < n) (get_or c.args.occurrences.now c.back-var.result [])) (sym c.loop-trail.invariant.followed.bits) (c.requires.places c.back-var.result)
 
 pub loop-trail-preserved : goal.loop-trail-preserved
 loop-trail-preserved c =
@@ -19,9 +18,9 @@ loop-trail-preserved c =
     let before : c.args.mark < length c.loop-trail.trail.past = omega arith in
     record {
       mark = omega arith;
-      followed = followed-then c.args.occurrences.now c.args.woken.now c.loop-trail.woken c.wake_each.new.self c.args.trail.now.present c.loop-trail.trail.present c.back-var.new.self.present c.loop-trail.invariant.followed
-          (followed-change c.args.occurrences.now c.loop-trail.woken c.wake_each.new.self c.loop-trail.trail.present c.back-var.new.self.present c.back-var.result
-          (c.wake_each.ensures ∙ ap (with_woken c.loop-trail.woken) c.on.ensures) c.back-var.ensures.count c.back-var.ensures.others);
+      followed = followed-then c.args.occurrences.now c.args.woken.now c.loop-trail.woken c.wake.new.woken c.args.trail.now.present c.loop-trail.trail.present c.back-var.new.self.present c.loop-trail.invariant.followed
+          (followed-change c.args.occurrences.now c.loop-trail.woken c.wake.new.woken c.loop-trail.trail.present c.back-var.new.self.present c.back-var.result
+          c.wake.ensures c.back-var.ensures.count c.back-var.ensures.others);
       states = sym (take-back (all_of c.loop-trail.trail) c.loop-trail.trail.past c.back-var.new.self.past c.loop-trail.trail.present c.back-var.new.self.present c.args.mark refl c.back-var.ensures.past before)
           ∙ c.loop-trail.invariant.states;
     }

@@ -12,7 +12,7 @@ use Rattle.dp_justify.specs.Keeping.{Explained}
 use Rattle.dp_justify.specs.Taking.{IsRunTurn, SeenTurn, explained_of, seen_among, seen_at}
 use Rattle.dp_justify.specs.declared.turns.RunTurn.{RunTurn}
 use Rattle.dp_justify.proofs.KeepLaws.{IsBack, back-all, back-more}
-use Rattle.dp_justify.proofs.TrailSteps.{mark-there, seen-back, trail-back}
+use Rattle.dp_justify.proofs.TrailSteps.{keeps-more, mark-there, seen-back, trail-back}
 use Rattle.dp_justify.proofs.keep.kept_turns.Goals as goal
 
 -- the turns before the last are turns of the run, and so is the last, at the state at its mark
@@ -42,6 +42,7 @@ pub loop-turn-preserved : goal.loop-turn-preserved
 loop-turn-preserved c =
     let back = seen-back c.loop-turn.engine c.loop-turn.turns.items c.pop.new.self.items c.in-Some.turn c.in-Some.ensures.items c.loop-turn.invariant.trail c.undo.new.self c.undo.ensures.states in
     record {
+      parts = keeps-more c.args.engine.now c.loop-turn.engine c.undo.new.self c.loop-turn.invariant.parts c.undo.ensures.parts;
       count = c.in_ok-step.ensures.count ∙ c.loop-turn.invariant.count;
       base = c.keep.ensures.base;
       trail = trail-back c.loop-turn.engine c.loop-turn.turns.items c.pop.new.self.items c.in-Some.turn c.in-Some.ensures.items c.loop-turn.invariant.trail c.undo.new.self c.undo.ensures.states;
@@ -56,8 +57,8 @@ loop-turn-preserved c =
           c.in_ok-step.ensures.pairs c.in_ok-step.ensures.kept c.in_ok-push_some.ensures;
     }
 
-pub returns : goal.returns
-returns c =
+pub returns-clause-kept : goal.returns-clause-kept
+returns-clause-kept c =
     let base : Domains = c.args.problem.now.initial in
     let explain : SeenTurn → Explained = explained_of (posed c.args.problem.now) c.args.nogoods.now in
     let all : List Explained = map explain (map (seen_among (states c.args.engine.now)) c.args.turns.items) in

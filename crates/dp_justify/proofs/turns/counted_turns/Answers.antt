@@ -1,12 +1,8 @@
 -- The turn at the engine's state heads the run from there.
-use Rattle.std.proofs.Common.{◌∙◌}
-use Rattle.dp_engine.specs.Engines.{KeepsParts, Propagation}
+use Rattle.dp_engine.specs.Engines.{Propagation}
 use Rattle.dp_engine.proofs.PlacedLaws.{problem-sound}
-use Rattle.dp_justify.proofs.TrailSteps.{IsStep, step-end, step-on, step-trail}
+use Rattle.dp_justify.proofs.TrailSteps.{IsStep, keeps-more, step-end, step-on, step-trail}
 use Rattle.dp_justify.proofs.turns.counted_turns.Goals as goal
-
-keeps_more : (first before now : Propagation) → KeepsParts first before → KeepsParts before now → KeepsParts first now
-keeps_more first before now h k = record { problem = k.problem ∙ h.problem; nogoods = k.nogoods ∙ h.nogoods }
 
 pub loop-turns-preserved : goal.loop-turns-preserved
 loop-turns-preserved g c =
@@ -21,7 +17,7 @@ loop-turns-preserved g c =
       told = c.in_ok-end.ensures.end;
     } in
     record {
-      parts = keeps_more first c.loop-turns.engine c.take_turn.new.engine c.loop-turns.invariant.parts c.in_ok-end.ensures.parts;
+      parts = keeps-more first c.loop-turns.engine c.take_turn.new.engine c.loop-turns.invariant.parts c.in_ok-end.ensures.parts;
       along = (step-on first c.loop-turns.engine c.take_turn.new.engine c.loop-turns.turns.items c.take_turn.new.turns.items c.in_ok-end.end step c.in-None.is c.in_ok-end.ensures.present).0;
       trail = step-trail first c.loop-turns.engine c.take_turn.new.engine c.loop-turns.turns.items c.take_turn.new.turns.items c.in_ok-end.end step;
     }

@@ -6,9 +6,13 @@ use Rattle.dp_solver.proofs.RoundSteps.{decided-enough, fresh-searching, stopped
 use Rattle.dp_solver.proofs.WritingSteps.{on-err}
 use Rattle.dp_solver.proofs.solving.solve_cut.Goals as goal
 
+pub returns-in_err-index-clause-part : goal.returns-in_err-index-clause-part
+returns-in_err-index-clause-part g c =
+    on-err c.from_residual.result _ (stopped-fresh (cut_problem c.args.problem.now c.args.atoms.now c.args.goal) c.args.conflicts (output c.args.out (g.D.Desk.sight c.args.desk.now)) c.requires.opened)
+
 pub returns-in_err-search-clause-part : goal.returns-in_err-search-clause-part
 returns-in_err-search-clause-part g c =
-    on-err c.from_residual.result _ (stopped-fresh (cut_problem c.args.problem.now c.args.atoms.now c.args.goal) c.args.conflicts (output c.args.out (g.D.Desk.sight c.args.desk.now)) c.requires.opened)
+    on-err c.from_residual-in_err-search.result _ (stopped-fresh (cut_problem c.args.problem.now c.args.atoms.now c.args.goal) c.args.conflicts (output c.args.out (g.D.Desk.sight c.args.desk.now)) c.requires.opened)
 
 pub search_on-requires : goal.search_on-requires
 search_on-requires g c =

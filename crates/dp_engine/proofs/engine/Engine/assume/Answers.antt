@@ -1,11 +1,12 @@
-use Rattle.std.proofs.Common.{◌+◌, length, sym, ◌∙◌, ap, subst}
+use Rattle.std.proofs.Common.{◌+◌, [], ◌∷◌, length, sym, ◌∙◌, ap, subst}
 use Rattle.dp_domain.specs.States.{is_dead}
 use Rattle.dp_parts.specs.Problems.{posed}
 use Rattle.dp_engine.specs.Placed.{turn_order}
 use Rattle.dp_engine.specs.Trails.{all_of}
 use Rattle.dp_engine.specs.Woken.{ArePlaces}
 use Rattle.dp_engine.proofs.PlacedLaws.{problem-sound}
-use Rattle.dp_engine.proofs.StateSteps.{counted-first, counted-last}
+use Rattle.dp_engine.proofs.StateSteps.{begins-then, counted-first, counted-last}
+use Rattle.dp_engine.proofs.SeenLaws.{begins-first}
 use Rattle.dp_engine.proofs.StepLaws.{places-below}
 use Rattle.dp_engine.proofs.TrackedLaws.{tracked-moved}
 use Rattle.dp_engine.proofs.WokenLaws.{followed-then, rest-followed}
@@ -33,6 +34,8 @@ invariant_of-self c =
     (problem-sound c.self.inside.problem.now c.self.inside.roster.nogoods c.self.invariant.engine.problem c.self.invariant.engine.nogoods) c.self.invariant.index
     (followed-then c.self.inside.occurrences c.self.inside.woken c.cut_each-cut.new.woken c.go_back.new.woken c.self.inside.trail.present c.cut_each-cut.new.trail.present c.go_back.new.trail.present c.cut_each-cut.ensures.followed c.go_back.ensures.followed)
     c.self.invariant.rest)
+    (begins-first c.self.inside.problem.now.initial (all_of c.cut_each-cut.new.trail) (all_of c.go_back.new.trail) c.len-mark.result c.go_back.ensures.states
+    (begins-then (c.self.inside.problem.now.initial ∷ []) (all_of c.self.inside.trail) (all_of c.cut_each-cut.new.trail) c.self.invariant.start c.cut_each-cut.ensures.states))
     (c.dead-self-inside.ensures ∙ ap is_dead c.present.ensures)
 
 pub invariant_of-self-2 : goal.invariant_of-self-2
@@ -41,4 +44,5 @@ invariant_of-self-2 c =
     c.self.invariant (c.cut_each-cut.ensures.counts (length c.self.inside.problem.now.initial) c.self.invariant.engine.states) c.cut_each-cut.ensures.followed.bits
     (rest-followed (length c.self.inside.problem.now.initial) (turn_order (posed c.self.inside.problem.now) c.self.inside.roster.nogoods) c.self.inside.occurrences c.self.inside.woken c.cut_each-cut.new.woken c.self.inside.trail.present c.cut_each-cut.new.trail.present
     (problem-sound c.self.inside.problem.now c.self.inside.roster.nogoods c.self.invariant.engine.problem c.self.invariant.engine.nogoods) c.self.invariant.index c.cut_each-cut.ensures.followed c.self.invariant.rest)
+    (begins-then (c.self.inside.problem.now.initial ∷ []) (all_of c.self.inside.trail) (all_of c.cut_each-cut.new.trail) c.self.invariant.start c.cut_each-cut.ensures.states)
     (c.dead-self-inside-2.ensures ∙ ap is_dead c.present-2.ensures)

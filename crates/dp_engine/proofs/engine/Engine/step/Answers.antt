@@ -1,4 +1,4 @@
-use Rattle.std.proofs.Common.{◌≡◌, ℕ, ◌+◌, ◌<◌, ◌≤◌, Bool, List, length, sym, ◌∙◌, ap, subst}
+use Rattle.std.proofs.Common.{◌≡◌, ℕ, ◌+◌, ◌<◌, ◌≤◌, Bool, List, [], ◌∷◌, length, sym, ◌∙◌, ap, subst}
 use Rattle.std.specs.Result.{MatchResult}
 use Rattle.std.proofs.lemmas.Option.{slice_get_within}
 use Rattle.dp_domain.specs.States.{Domains, is_dead}
@@ -7,12 +7,12 @@ use Rattle.dp_engine.specs.declared.turn.Turn.TheVariants.{Quiet}
 use Rattle.dp_engine.specs.Engines.{Propagation, parts_of}
 use Rattle.dp_engine.specs.Placed.{AreSound, Placed, turn_order}
 use Rattle.dp_engine.specs.Rosters.{all_placed}
-use Rattle.dp_engine.specs.Trails.{Course}
+use Rattle.dp_engine.specs.Trails.{Course, all_of}
 use Rattle.dp_engine.specs.Turns.{IsTurnAt, applied}
 use Rattle.dp_engine.specs.Woken.{ArePlaces, IsCounted, Rest, owed_of, woken_after}
 use Rattle.dp_engine.proofs.EngineSteps.{turn-meant, turn-of_problem}
 use Rattle.dp_engine.proofs.PlacedLaws.{problem-sound}
-use Rattle.dp_engine.proofs.StateSteps.{counted-last}
+use Rattle.dp_engine.proofs.StateSteps.{begins-then, counted-last}
 use Rattle.dp_engine.proofs.StepLaws.{applied-alive, counted-err, counted-quiet, counted-step, found-facts, places-below, quiet-facts, rest-applied, woken_after-length}
 use Rattle.dp_engine.proofs.TrackedLaws.{tracked-moved}
 use Rattle.dp_engine.proofs.TurnLaws.{turn-atoms}
@@ -49,7 +49,7 @@ invariant_of-self g c =
     let rest : Rest (turn_order (posed c.self.inside.problem.now) c.self.inside.roster.nogoods) c.first_turn.new.woken c.self.inside.trail.present = subst (λ (qs : List Placed). Rest qs c.first_turn.new.woken c.self.inside.trail.present) c.self.invariant.parts
     (subst (λ (d : Domains). Rest (all_placed c.self.inside.roster) c.first_turn.new.woken d) c.present-state.ensures c.first_turn.ensures.rest) in
     tracked-moved c.self.inside.problem.now c.self.inside.roster c.self.inside.occurrences c.self.inside.trail.past c.self.inside.trail.past c.self.inside.trail.present c.self.inside.trail.present c.self.inside.woken c.first_turn.new.woken c.self.inside.dead c.self.inside.dead
-    c.self.invariant c.self.invariant.engine.states c.first_turn.ensures.count rest c.self.invariant.known
+    c.self.invariant c.self.invariant.engine.states c.first_turn.ensures.count rest c.self.invariant.start c.self.invariant.known
 
 pub returns-in_err-found-clause-counted : goal.returns-in_err-found-clause-counted
 returns-in_err-found-clause-counted g c =
@@ -66,6 +66,7 @@ invariant_of-self-in_err-apply-in-Some g c =
     (ap (λ (vs : List Bool). length vs) c.in_err-apply-in-Some.ensures.woken_stays ∙ c.first_turn.ensures.count)
     (subst (λ (vs : List Bool). Rest (turn_order (posed c.self.inside.problem.now) c.self.inside.roster.nogoods) vs c.apply.new.trail.present) (sym c.in_err-apply-in-Some.ensures.woken_stays)
     (subst (λ (d : Domains). Rest (turn_order (posed c.self.inside.problem.now) c.self.inside.roster.nogoods) c.first_turn.new.woken d) (sym (ap (λ (t : Course). t.present) c.in_err-apply-in-Some.ensures.trail_stays)) rest))
+    (begins-then (c.self.inside.problem.now.initial ∷ []) (all_of c.self.inside.trail) (all_of c.apply.new.trail) c.self.invariant.start c.apply.ensures.states)
     (c.self.invariant.known ∙ ap (λ (t : Course). is_dead t.present) (sym c.in_err-apply-in-Some.ensures.trail_stays))
 
 pub returns-in_err-apply-in-Some-clause-counted : goal.returns-in_err-apply-in-Some-clause-counted
@@ -91,6 +92,7 @@ invariant_of-self-in-Some g c =
     (ap (λ (vs : List Bool). length vs) c.in_ok-apply-in-Some.ensures.woken ∙ woken_after-length c.first_turn.new.woken c.self.inside.occurrences c.in-Some.place c.in-Some.turn ∙ c.first_turn.ensures.count)
     (subst (λ (vs : List Bool). Rest (turn_order (posed c.self.inside.problem.now) c.self.inside.roster.nogoods) vs c.apply.new.trail.present) (sym c.in_ok-apply-in-Some.ensures.woken)
     (subst (λ (d : Domains). Rest (turn_order (posed c.self.inside.problem.now) c.self.inside.roster.nogoods) (woken_after c.first_turn.new.woken c.self.inside.occurrences c.in-Some.place c.in-Some.turn) d) (sym c.in_ok-apply-in-Some.ensures.present) turn))
+    (begins-then (c.self.inside.problem.now.initial ∷ []) (all_of c.self.inside.trail) (all_of c.apply.new.trail) c.self.invariant.start c.apply.ensures.states)
     (c.if-self.false ∙ sym (ap is_dead c.in_ok-apply-in-Some.ensures.present ∙ applied-alive (length c.self.inside.problem.now.initial) (turn_order (posed c.self.inside.problem.now) c.self.inside.roster.nogoods) c.self.inside.trail.present c.in-Some.turn sound (sym c.self.invariant.known ∙ c.if-self.false) found.1.first))
 
 pub returns-in-None-clause-meaning : goal.returns-in-None-clause-meaning

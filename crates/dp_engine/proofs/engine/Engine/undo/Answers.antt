@@ -6,6 +6,7 @@ use Rattle.dp_engine.specs.Trails.{all_of}
 use Rattle.dp_engine.specs.Woken.{ArePlaces}
 use Rattle.dp_engine.proofs.PlacedLaws.{problem-sound}
 use Rattle.dp_engine.proofs.StateSteps.{counted-first, counted-last}
+use Rattle.dp_engine.proofs.SeenLaws.{begins-first}
 use Rattle.dp_engine.proofs.StepLaws.{places-below}
 use Rattle.dp_engine.proofs.TrackedLaws.{tracked-moved}
 use Rattle.dp_engine.proofs.WokenLaws.{followed-then, rest-followed}
@@ -27,4 +28,5 @@ invariant_of-self c =
     c.go_back.ensures.followed.bits
     (rest-followed (length c.self.inside.problem.now.initial) (turn_order (posed c.self.inside.problem.now) c.self.inside.roster.nogoods) c.self.inside.occurrences c.self.inside.woken c.go_back.new.woken c.self.inside.trail.present c.go_back.new.trail.present
     (problem-sound c.self.inside.problem.now c.self.inside.roster.nogoods c.self.invariant.engine.problem c.self.invariant.engine.nogoods) c.self.invariant.index c.go_back.ensures.followed c.self.invariant.rest)
+    (begins-first c.self.inside.problem.now.initial (all_of c.self.inside.trail) (all_of c.go_back.new.trail) c.args.mark c.go_back.ensures.states c.self.invariant.start)
     (c.dead-self-inside.ensures ∙ ap is_dead c.present.ensures)

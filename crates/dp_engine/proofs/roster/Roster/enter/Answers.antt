@@ -13,46 +13,46 @@ pub enter-requires : goal.enter-requires
 enter-requires c =
     let at : slice_get (all_placed c.args.self.now) c.args.place ≡ Some (placed_at (c.entry_at-entry.result.id, c.entry_at-entry.result.part.now)) =
     subst (λ (l : Listed). slice_get (all_placed l) c.args.place ≡ Some (placed_at (c.entry_at-entry.result.id, c.entry_at-entry.result.part.now))) c.self.view_is
-    (model-at c.self.inside.model.items (λ e. (e.id, e.part.now)) (c.self.inside.given.now ++ c.self.inside.added.items) c.args.place c.entry_at-entry.result
-    (subst (λ es. slice_get es c.args.place ≡ Some c.entry_at-entry.result) c.as_slice.ensures.value c.entry_at-entry.ensures)) in
+    (model-at c.self.inside.model.now (λ e. (e.id, e.part.now)) (c.self.inside.given.now ++ c.self.inside.added.items) c.args.place c.entry_at-entry.result
+    c.entry_at-entry.ensures) in
     (Each-at (IsSound (length c.args.occurrences.now)) (all_placed c.args.self.now) c.args.place (placed_at (c.entry_at-entry.result.id, c.entry_at-entry.result.part.now)) c.requires.sound at).covered
 
 pub nogood_at-nogood-requires : goal.nogood_at-nogood-requires
 nogood_at-nogood-requires c =
-    let there : c.args.place < length (all_placed (record { model = map (λ e. (e.id, e.part.now)) c.self.inside.model.items; nogoods = c.self.inside.given.now ++ c.self.inside.added.items })) =
+    let there : c.args.place < length (all_placed (record { model = map (λ e. (e.id, e.part.now)) c.self.inside.model.now; nogoods = c.self.inside.given.now ++ c.self.inside.added.items })) =
     subst (λ (l : Listed). c.args.place < length (all_placed l)) (sym c.self.view_is) c.requires.there in
-    let count = length-placed c.self.inside.model.items (λ e. (e.id, e.part.now)) (c.self.inside.given.now ++ c.self.inside.added.items) in
-    let same = ap (λ (ns : List (List Atomic)). length (c.self.inside.given.now ++ ns)) c.as_slice-else-place-len.ensures.value in
+    let count = length-placed c.self.inside.model.now (λ e. (e.id, e.part.now)) (c.self.inside.given.now ++ c.self.inside.added.items) in
+    let same = ap (λ (ns : List (List Atomic)). length (c.self.inside.given.now ++ ns)) c.as_slice.ensures.value in
     omega arith
 
-pub enter-requires-else-place-len : goal.enter-requires-else-place-len
-enter-requires-else-place-len c =
-    let place : c.args.place ≡ length c.self.inside.model.items + (c.args.place - c.len-else-place-len.result) = omega arith in
-    let at : slice_get (all_placed c.args.self.now) c.args.place ≡ Some (record { id = Nogood (c.args.place - c.len-else-place-len.result); face = face_nogood c.nogood_at-nogood.result.now }) =
-    subst (λ (l : Listed). slice_get (all_placed l) c.args.place ≡ Some (record { id = Nogood (c.args.place - c.len-else-place-len.result); face = face_nogood c.nogood_at-nogood.result.now })) c.self.view_is
-    (nogood-at c.self.inside.model.items (λ e. (e.id, e.part.now)) (c.self.inside.given.now ++ c.self.inside.added.items) c.args.place (c.args.place - c.len-else-place-len.result) c.nogood_at-nogood.result.now place
-    (subst (λ (ns : List (List Atomic)). slice_get (c.self.inside.given.now ++ ns) (c.args.place - c.len-else-place-len.result) ≡ Some c.nogood_at-nogood.result.now) c.as_slice-else-place-len.ensures.value c.nogood_at-nogood.ensures)) in
-    (Each-at (IsSound (length c.args.occurrences.now)) (all_placed c.args.self.now) c.args.place (record { id = Nogood (c.args.place - c.len-else-place-len.result); face = face_nogood c.nogood_at-nogood.result.now }) c.requires.sound at).covered
+pub enter-requires-else-place-self : goal.enter-requires-else-place-self
+enter-requires-else-place-self c =
+    let place : c.args.place ≡ length c.self.inside.model.now + (c.args.place - length c.self.inside.model.now) = omega arith in
+    let at : slice_get (all_placed c.args.self.now) c.args.place ≡ Some (record { id = Nogood (c.args.place - length c.self.inside.model.now); face = face_nogood c.nogood_at-nogood.result.now }) =
+    subst (λ (l : Listed). slice_get (all_placed l) c.args.place ≡ Some (record { id = Nogood (c.args.place - length c.self.inside.model.now); face = face_nogood c.nogood_at-nogood.result.now })) c.self.view_is
+    (nogood-at c.self.inside.model.now (λ e. (e.id, e.part.now)) (c.self.inside.given.now ++ c.self.inside.added.items) c.args.place (c.args.place - length c.self.inside.model.now) c.nogood_at-nogood.result.now place
+    (subst (λ (ns : List (List Atomic)). slice_get (c.self.inside.given.now ++ ns) (c.args.place - length c.self.inside.model.now) ≡ Some c.nogood_at-nogood.result.now) c.as_slice.ensures.value c.nogood_at-nogood.ensures)) in
+    (Each-at (IsSound (length c.args.occurrences.now)) (all_placed c.args.self.now) c.args.place (record { id = Nogood (c.args.place - length c.self.inside.model.now); face = face_nogood c.nogood_at-nogood.result.now }) c.requires.sound at).covered
 
-pub returns-then-place-len : goal.returns-then-place-len
-returns-then-place-len c =
+pub returns-then-place-self : goal.returns-then-place-self
+returns-then-place-self c =
     let at : slice_get (all_placed c.args.self.now) c.args.place ≡ Some (placed_at (c.entry_at-entry.result.id, c.entry_at-entry.result.part.now)) =
     subst (λ (l : Listed). slice_get (all_placed l) c.args.place ≡ Some (placed_at (c.entry_at-entry.result.id, c.entry_at-entry.result.part.now))) c.self.view_is
-    (model-at c.self.inside.model.items (λ e. (e.id, e.part.now)) (c.self.inside.given.now ++ c.self.inside.added.items) c.args.place c.entry_at-entry.result
-    (subst (λ es. slice_get es c.args.place ≡ Some c.entry_at-entry.result) c.as_slice.ensures.value c.entry_at-entry.ensures)) in
+    (model-at c.self.inside.model.now (λ e. (e.id, e.part.now)) (c.self.inside.given.now ++ c.self.inside.added.items) c.args.place c.entry_at-entry.result
+    c.entry_at-entry.ensures) in
     record {
       entered = λ q h. subst (λ (r : Placed). OnOk c.enter.result (c.enter.new.self ≡ entered c.args.occurrences.now c.args.place r.face.scope))
           (one-part (all_placed c.args.self.now) c.args.place (placed_at (c.entry_at-entry.result.id, c.entry_at-entry.result.part.now)) q at h) c.enter.ensures.entered;
     }
 
-pub returns-else-place-len : goal.returns-else-place-len
-returns-else-place-len c =
-    let place : c.args.place ≡ length c.self.inside.model.items + (c.args.place - c.len-else-place-len.result) = omega arith in
-    let at : slice_get (all_placed c.args.self.now) c.args.place ≡ Some (record { id = Nogood (c.args.place - c.len-else-place-len.result); face = face_nogood c.nogood_at-nogood.result.now }) =
-    subst (λ (l : Listed). slice_get (all_placed l) c.args.place ≡ Some (record { id = Nogood (c.args.place - c.len-else-place-len.result); face = face_nogood c.nogood_at-nogood.result.now })) c.self.view_is
-    (nogood-at c.self.inside.model.items (λ e. (e.id, e.part.now)) (c.self.inside.given.now ++ c.self.inside.added.items) c.args.place (c.args.place - c.len-else-place-len.result) c.nogood_at-nogood.result.now place
-    (subst (λ (ns : List (List Atomic)). slice_get (c.self.inside.given.now ++ ns) (c.args.place - c.len-else-place-len.result) ≡ Some c.nogood_at-nogood.result.now) c.as_slice-else-place-len.ensures.value c.nogood_at-nogood.ensures)) in
+pub returns-else-place-self : goal.returns-else-place-self
+returns-else-place-self c =
+    let place : c.args.place ≡ length c.self.inside.model.now + (c.args.place - length c.self.inside.model.now) = omega arith in
+    let at : slice_get (all_placed c.args.self.now) c.args.place ≡ Some (record { id = Nogood (c.args.place - length c.self.inside.model.now); face = face_nogood c.nogood_at-nogood.result.now }) =
+    subst (λ (l : Listed). slice_get (all_placed l) c.args.place ≡ Some (record { id = Nogood (c.args.place - length c.self.inside.model.now); face = face_nogood c.nogood_at-nogood.result.now })) c.self.view_is
+    (nogood-at c.self.inside.model.now (λ e. (e.id, e.part.now)) (c.self.inside.given.now ++ c.self.inside.added.items) c.args.place (c.args.place - length c.self.inside.model.now) c.nogood_at-nogood.result.now place
+    (subst (λ (ns : List (List Atomic)). slice_get (c.self.inside.given.now ++ ns) (c.args.place - length c.self.inside.model.now) ≡ Some c.nogood_at-nogood.result.now) c.as_slice.ensures.value c.nogood_at-nogood.ensures)) in
     record {
-      entered = λ q h. subst (λ (r : Placed). OnOk c.enter-else-place-len.result (c.enter-else-place-len.new.self ≡ entered c.args.occurrences.now c.args.place r.face.scope))
-          (one-part (all_placed c.args.self.now) c.args.place (record { id = Nogood (c.args.place - c.len-else-place-len.result); face = face_nogood c.nogood_at-nogood.result.now }) q at h) c.enter-else-place-len.ensures.entered;
+      entered = λ q h. subst (λ (r : Placed). OnOk c.enter-else-place-self.result (c.enter-else-place-self.new.self ≡ entered c.args.occurrences.now c.args.place r.face.scope))
+          (one-part (all_placed c.args.self.now) c.args.place (record { id = Nogood (c.args.place - length c.self.inside.model.now); face = face_nogood c.nogood_at-nogood.result.now }) q at h) c.enter-else-place-self.ensures.entered;
     }

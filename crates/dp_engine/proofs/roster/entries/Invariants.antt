@@ -2,7 +2,7 @@ use Rattle.std.proofs.Common.{◌≡◌, ◌++◌, map, drop}
 use Rattle.dp_parts.specs.Problems.{labelled}
 use Rattle.dp_engine.specs.Placed.{of_constraints}
 use Rattle.dp_engine.specs.Rosters.{placed_at}
-use Rattle.dp_engine.proofs.roster.Roster.new.Given as goal
+use Rattle.dp_engine.proofs.roster.entries.Given as goal
 
 -- the parts so far and those that are left are all
 abbrev pub invariant-loop-constraint : goal.invariant-loop-constraint
