@@ -16,9 +16,8 @@ use Rattle.fz_items.specs.declared.refusal.ModelRefusal.TheVariants.{Limit}
 use Rattle.fz_model.specs.Models.{Plan}
 use Rattle.dp_command.specs.Due.{LeavesUnread}
 use Rattle.dp_command.specs.Found.{IsFound, IsFoundIn, IsProblemFound, IsProblemOf}
-use Rattle.dp_command.specs.Proved.{IsSound, IsSoundTo}
-use Rattle.dp_command.specs.Replies.{IsGiven, IsJudged, JudgesLog, Replies, RepliesTo, model_of, reply_of}
-use Rattle.dp_command.specs.Words.{Request, Check, Spells}
+use Rattle.dp_command.specs.Replies.{IsGiven, IsJudged, IsTrueReply, JudgesLog, Replies, RepliesTo, model_of, reply_of}
+use Rattle.dp_command.specs.Words.{Request, Check}
 use Rattle.dp_command.specs.declared.finding.Found.{Found}
 use Rattle.dp_command.specs.declared.finding.Found.TheVariants.{Problem, Refusal}
 use Rattle.dp_command.specs.declared.outcome.Outcome.{Outcome}
@@ -93,6 +92,11 @@ due_by names words p a (Proved proving) e j = absurd (no_proving p a proving e)
 pub given_of : (names : Option Files) (model : List ℕ) (m : Plan) (p : Csp) → IsFound names model (Problem m p) → IsGiven names model m
 given_of names model m p f = record { text = f.text; read = f.read; spelled = f.found.spelled }
 
+true_by : (m : Plan) (p : Csp) (a : LogAnswer) (reply : Reply) → IsProblemOf m p → reply ≡ reply_of p a → IsRightAnswer p a → IsGoalAnswer p a → IsTrueReply m reply
+true_by m p (answer.Accepted v) reply problem e right goal = subst (λ (r : Reply). IsTrueReply m r) (sym e) (problem.true_of v right goal)
+true_by m p (answer.Unread r) reply problem e right goal = subst (λ (q : Reply). IsTrueReply m q) (sym e) tt
+true_by m p (answer.Refused r t) reply problem e right goal = subst (λ (q : Reply). IsTrueReply m q) (sym e) tt
+
 -- the reply for the log belongs to the words
 due_of : (names : Option Files) (model log : List ℕ) (m : Plan) (p : Csp) (reply : Reply) → IsFound names model (Problem m p) → IsJudged names log p reply →
     RepliesTo names (Check model log) reply
@@ -104,6 +108,7 @@ due_of names model log m p reply f j = λ words asked.
       m = m;
       given = given_of names model m p f;
       judged = subst (λ (q : Csp). IsJudged names log q reply) f.found.problem.posed j;
+      holds = true_by m p _ reply f.found.problem j.replied j.right j.goal;
     })
 
 -- so does that for a refused model
@@ -111,20 +116,6 @@ pub refused_of : (names : Option Files) (request : Request) (model : List ℕ) (
     RepliesTo names request (ModelRefused refusal)
 refused_of names request model refusal e f = λ words asked.
     record { request = request; asked = asked; model = model; named = e; text = f.text; read = f.read; refused = f.found }
-
-sound_by : (names : Option Files) (words : List (List ℕ)) (model log : List ℕ) (m : Plan) (p : Csp) (a : LogAnswer) (reply : Reply) → Spells (Check model log) words → IsGiven names model m →
-    IsProblemOf m p → reply ≡ reply_of p a → IsRightAnswer p a → IsGoalAnswer p a → IsSound names words reply
-sound_by names words model log m p (answer.Accepted v) reply asked given problem e right goal =
-    subst (λ (r : Reply). IsSound names words r) (sym e)
-    (record { model = model; log = log; asked = asked; m = m; given = given; holds = problem.true_of v right goal })
-sound_by names words model log m p (answer.Unread r) reply asked given problem e right goal = subst (λ (q : Reply). IsSound names words q) (sym e) tt
-sound_by names words model log m p (answer.Refused r t) reply asked given problem e right goal = subst (λ (q : Reply). IsSound names words q) (sym e) tt
-
--- what is accepted is true of the model
-sound_of : (names : Option Files) (model log : List ℕ) (m : Plan) (p : Csp) (reply : Reply) → IsFound names model (Problem m p) → IsJudged names log p reply →
-    IsSoundTo names (Check model log) reply
-sound_of names model log m p reply f j = λ words asked.
-    sound_by names words model log m p _ reply asked (given_of names model m p f) f.found.problem j.replied j.right j.goal
 
 -- an answer's fact follows from another
 pub if_ok : {A E : Type 0} {P Q : A → Type 0} (r : Result A E) → ((x : A) → P x → Q x) → IfOk r P → IfOk r Q
@@ -148,11 +139,6 @@ pub due_at : (names later : Option Files) (model log : List ℕ) (m : Plan) (p :
     IsJudged later log p reply → RepliesTo names (Check model log) reply
 due_at names later model log m p reply what same is f j =
     due_of names model log m p reply (subst (λ (w : Found). IsFound names model w) is f) (subst (λ (n : Option Files). IsJudged n log p reply) same j)
-
-pub sound_at : (names later : Option Files) (model log : List ℕ) (m : Plan) (p : Csp) (reply : Reply) (what : Found) → later ≡ names → what ≡ Problem m p → IsFound names model what →
-    IsJudged later log p reply → IsSoundTo names (Check model log) reply
-sound_at names later model log m p reply what same is f j =
-    sound_of names model log m p reply (subst (λ (w : Found). IsFound names model w) is f) (subst (λ (n : Option Files). IsJudged n log p reply) same j)
 
 -- both inputs are at their ends
 pub ended_at : (m : Plan) (p : Csp) (what : Found) (middle now : Sight) → what ≡ Problem m p → now ≡ with_input In.Log now.log middle → (IsProblemFound what → IsAtEnd middle.model) →

@@ -8,6 +8,7 @@ pub mod Proves
 pub mod Says
 pub mod Solves
 pub mod Tasks
+pub mod Touches
 pub mod Answered
 pub mod Taken
 pub mod Patience

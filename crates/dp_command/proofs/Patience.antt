@@ -1,7 +1,7 @@
 -- Which lines were read before a read fault.
 use Rattle.std.specs.Prelude.{◌≡◌, ℕ, Option, Some, None, Result, Ok, Err, IsErrOf, List, [], take}
 use Rattle.std.specs.Result.{IsErrAnd}
-use Rattle.std.proofs.Common.{refl, sym, ◌∙◌, ap, subst, inl, inr}
+use Rattle.std.proofs.Common.{refl, sym, ◌∙◌, ap, subst, inr}
 use Rattle.dp_desk.specs.Channel.{Channel, Files}
 use Rattle.dp_desk.specs.Sight.{Sight, with_output}
 use Rattle.dp_desk.specs.declared.desk.Out.TheVariants as Out

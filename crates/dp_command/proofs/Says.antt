@@ -1,5 +1,5 @@
 -- What a reply leaves of a desk where it is handed over.
-use Rattle.std.specs.Prelude.{◌≡◌, ◌≢◌, ℕ, ◌≤◌, Option, Some, None, List, [], ◌++◌, ◌⊎◌}
+use Rattle.std.specs.Prelude.{◌≡◌, ◌≢◌, ℕ, ◌≤◌, IfSome, Option, Some, None, List, [], ◌++◌, ◌⊎◌}
 use Rattle.std.proofs.Common.{refl, sym, ◌∙◌, ap, subst, inl, inr, arith, lit≤}
 use Rattle.dp_desk.specs.Channel.{Channel, Shut, Hidden, Shown, Files, Grows, GrowsByPart, IsOpen, Starts}
 use Rattle.dp_desk.specs.Causes.{Rose}
@@ -9,8 +9,8 @@ use Rattle.dp_desk.proofs.Channels.{grows_by_none}
 use Rattle.dp_show.specs.declared.shown.Refusal.{Refusal as ShowRefusal}
 use Rattle.dp_command.proofs.Processes.{proof_of}
 use Rattle.dp_command.proofs.Requests.{check_proves_not, process_is_no_check, show_is_no_check, solve_is_no_check, solve_is_no_process, solve_is_no_show, solve_proves_not}
-use Rattle.dp_command.specs.Due.{AreAtEnd, ChangesInputs, ChangesOutputs, Holds, HoldsFront, IsCut, IsFiled, LeavesUnread, ReadsToEnd, Said, SaidPart, Writes, WritesPart}
-use Rattle.dp_command.specs.Proved.{FilesProof, IsSound, SaysTruth}
+use Rattle.dp_command.specs.Due.{AreAtEnd, ChangesInputs, ChangesOutputs, Holds, HoldsFront, IsCut, IsFiled, Leaves, LeavesUnasked, LeavesUnread, ReadsToEnd, Said, SaidPart, Writes, WritesPart}
+use Rattle.dp_command.specs.Proved.{FilesProof, SaysTruth}
 use Rattle.dp_command.specs.Replies.{Replies}
 use Rattle.dp_command.specs.Solving.{IsSolved}
 use Rattle.dp_command.specs.Texts.{file_of, outcome_file, outcome_status, proving_status, read_fault, shown_status, status_of, text_of}
@@ -183,25 +183,21 @@ said_of names words reply was middle now r text before later same due tx (inl h)
     record { reply = reply; due = due; stands = h.0; written = moved (file_of reply) (text_of reply) was middle now same (subst (λ (t : List ℕ). Writes (file_of reply) t middle now) tx h.1) }
 said_of names words reply was middle now r text before later same due tx (inr h) small = absurd (not_six r small h.0)
 
-truth_by : (names : Option Files) (words : List (List ℕ)) (reply : Reply) (was now : Channel) → Replies names words reply → IsSound names words reply → IsCheck words → status_of reply ≡ 0 →
+truth_by : (names : Option Files) (words : List (List ℕ)) (reply : Reply) (was now : Channel) → Replies names words reply → IsCheck words → status_of reply ≡ 0 →
     Grows was now (text_of reply) → SaysTruth names words was now
-truth_by names words (Accepted claim) was now due sound check e text = record { claim = claim; proved = sound; text = text }
-truth_by names words NoCommand was now due sound check e text = absurd cc
-truth_by names words (ModelRefused refusal) was now due sound check e text = absurd cc
-truth_by names words (Unread refusal) was now due sound check e text = absurd cc
-truth_by names words (Refused refusal told) was now due sound check e text = absurd cc
-truth_by names words (ShownLog shown) was now due sound check e text = absurd (show_is_no_check words due.log check due.asked)
-truth_by names words (Processed o) was now due sound check e text = absurd (process_is_no_check words due.model due.scaffold due.out check due.asked)
-truth_by names words (Proved p) was now due sound check e text = absurd (check_proves_not words check (due.model, due.most, due.asked))
+truth_by names words (Accepted claim) was now due check e text =
+    record { claim = claim; proved = record { model = due.model; log = due.log; asked = due.asked; m = due.m; given = due.given; holds = due.holds }; text = text }
+truth_by names words NoCommand was now due check e text = absurd cc
+truth_by names words (ModelRefused refusal) was now due check e text = absurd cc
+truth_by names words (Unread refusal) was now due check e text = absurd cc
+truth_by names words (Refused refusal told) was now due check e text = absurd cc
+truth_by names words (ShownLog shown) was now due check e text = absurd (show_is_no_check words due.log check due.asked)
+truth_by names words (Processed o) was now due check e text = absurd (process_is_no_check words due.model due.scaffold due.out check due.asked)
+truth_by names words (Proved p) was now due check e text = absurd (check_proves_not words check (due.model, due.most, due.asked))
 
--- at status 0 the claim that was written is true
-pub truth_said : (names : Option Files) (words : List (List ℕ)) (reply : Reply) (was middle now : Sight) (r : ℕ) (text : List ℕ) (before later : ℕ) →
-    ChangesInputs was middle → Replies names words reply → IsSound names words reply → text ≡ text_of reply →
-    WasHanded r (status_of reply) (file_of reply) text middle now before later → r ≡ 0 → IsCheck words → SaysTruth names words was.answer now.answer
-truth_said names words reply was middle now r text before later same due sound tx (inl h) e check =
-    truth_by names words reply was.answer now.answer due sound check (sym h.0 ∙ e)
-    (moved (file_of reply) (text_of reply) was middle now same (subst (λ (t : List ℕ). Writes (file_of reply) t middle now) tx h.1)).told
-truth_said names words reply was middle now r text before later same due sound tx (inr h) e check = absurd (not_six r (zero_small r e) h.0)
+-- at status 0 of a check the claim that was written is true
+pub truth_said : (names : Option Files) (words : List (List ℕ)) (r : ℕ) (was now : Sight) → Said names words r was now → IsCheck words → r ≡ 0 → SaysTruth names words was.answer now.answer
+truth_said names words r was now said check e = truth_by names words said.reply was.answer now.answer said.due check (sym said.stands ∙ e) said.written.told
 
 unsolved_by : (names : Option Files) (words : List (List ℕ)) (reply : Reply) → Replies names words reply → IsSolve words → (status_of reply ≡ 0) ⊎ (status_of reply ≡ 4) → ⊥
 unsolved_by names words NoCommand due solve (inl e) = absurd cc
@@ -220,47 +216,6 @@ pub unsolved : (names : Option Files) (words : List (List ℕ)) (reply : Reply) 
     Replies names words reply → WasHanded r (status_of reply) (file_of reply) text was now before later → IsSolved words r → ⊥
 unsolved names words reply was now r text before later due (inl h) (solve, e) = unsolved_by names words reply due solve (subst (λ (n : ℕ). (n ≡ 0) ⊎ (n ≡ 4)) h.0 e)
 unsolved names words reply was now r text before later due (inr h) (solve, e) = six_not_solved r h.0 e
-
--- the inputs that words which are no command do not ask for are as they were
-unread_by : (reply : Reply) (was now : Sight) → status_of reply ≡ 2 → LeavesUnread reply was now → (now.model ≡ was.model) × (now.log ≡ was.log)
-unread_by NoCommand was now e h = h
-unread_by (ModelRefused refusal) was now e h = absurd cc
-unread_by (Accepted claim) was now e h = absurd cc
-unread_by (Unread refusal) was now e h = absurd cc
-unread_by (Refused refusal told) was now e h = absurd cc
-unread_by (ShownLog shown) was now e h = absurd (not_shown shown.refusal e)
-  where
-    not_shown : (refusal : Option ShowRefusal) → shown_status refusal ≡ 2 → ⊥
-    not_shown None e = cc
-    not_shown (Some refusal) e = cc
-unread_by (Processed o) was now e h = absurd (not_processed o e)
-  where
-    not_processed : (o : Outcome) → outcome_status o ≡ 2 → ⊥
-    not_processed (outcome.Done done) e = cc
-    not_processed (outcome.Unread refusal) e = cc
-    not_processed (outcome.Refused refusal text) e = cc
-    not_processed (outcome.NotFollowing failing) e = cc
-unread_by (Proved p) was now e h = absurd (not_proved p e)
-  where
-    not_proved : (p : Proving) → proving_status p ≡ 2 → ⊥
-    not_proved (proving.Solved text) e = cc
-    not_proved (proving.Unknown text) e = cc
-    not_proved (proving.Accepted text claim) e = cc
-    not_proved (proving.Unread refusal) e = cc
-    not_proved (proving.ScaffoldRefused refusal text) e = cc
-    not_proved (proving.NotFollowing number id) e = cc
-    not_proved (proving.LogRefused refusal text) e = cc
-
-six_not_two : (r : ℕ) → r ≡ 6 → r ≡ 2 → ⊥
-six_not_two r e f = omega (arith, e, f)
-
-pub unread_said : (reply : Reply) (was middle now : Sight) (r : ℕ) (file : Option (List ℕ)) (text : List ℕ) (before later : ℕ) →
-    now ≡ with_output Out.Answer now.answer (with_output Out.First now.first middle) → LeavesUnread reply was middle → WasHanded r (status_of reply) file text middle now before later → r ≡ 2 →
-    (now.model ≡ was.model) × (now.log ≡ was.log)
-unread_said reply was middle now r file text before later rest unread (inl h) e =
-    let both = unread_by reply was middle (sym h.0 ∙ e) unread in
-    (ap (λ (t : Sight). t.model) rest ∙ both.0, ap (λ (t : Sight). t.log) rest ∙ both.1)
-unread_said reply was middle now r file text before later rest unread (inr h) e = absurd (six_not_two r h.0 e)
 
 -- the log that a refused model leaves unread is as it was
 refused_by : (reply : Reply) (was now : Sight) → status_of reply ≡ 3 → LeavesUnread reply was now → now.log ≡ was.log
@@ -339,6 +294,29 @@ pub ended_said : (words : List (List ℕ)) (reply : Reply) (middle now : Sight) 
     WasHanded r (status_of reply) file text middle now before later → r ≡ 0 → ReadsToEnd words now
 ended_said words reply middle now r file text before later same ended (inl h) e = still_read words middle now same (ended (sym h.0 ∙ e))
 ended_said words reply middle now r file text before later same ended (inr h) e = absurd (not_six r (zero_small r e) h.0)
+
+-- what is left unread before the outputs is so behind them
+pub left_said : (words : List (List ℕ)) (was middle now : Sight) → now ≡ with_output Out.Answer now.answer (with_output Out.First now.first middle) → Leaves words was middle → Leaves words was now
+left_said words was middle now same l = record {
+  command = l.command;
+  asked = l.asked;
+  left = left_by l.command was middle now (ap (λ (t : Sight). t.model) same) (ap (λ (t : Sight). t.log) same) l.left;
+  none = λ e. let both = l.none e in (ap (λ (t : Sight). t.model) same ∙ both.0, ap (λ (t : Sight). t.log) same ∙ both.1);
+}
+  where
+    left_by : (command : Option Request) (was middle now : Sight) → now.model ≡ middle.model → now.log ≡ middle.log → IfSome command (λ request. LeavesUnasked request was middle) →
+        IfSome command (λ request. LeavesUnasked request was now)
+    left_by None was middle now e f h = h
+    left_by (Some (Check model log)) was middle now e f h = h
+    left_by (Some (Show log)) was middle now e f h = e ∙ h
+    left_by (Some (Process model scaffold out)) was middle now e f h = h
+    left_by (Some (Solve model out most)) was middle now e f h = f ∙ h
+    left_by (Some (Prove model most)) was middle now e f h = f ∙ h
+
+-- so it is behind the answer alone
+pub left_told : (words : List (List ℕ)) (was middle now : Sight) → now ≡ with_output Out.Answer now.answer middle → Leaves words was middle → Leaves words was now
+left_told words was middle now same l =
+    left_said words was middle now (same ∙ ap (λ (c : Channel). with_output Out.Answer now.answer (with_output Out.First c middle)) (sym (ap (λ (t : Sight). t.first) same))) l
 
 -- ---- a failed write
 

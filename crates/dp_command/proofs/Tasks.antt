@@ -6,9 +6,8 @@ use Rattle.dp_desk.specs.Channel.{Files}
 use Rattle.dp_desk.specs.Sight.{Sight}
 use Rattle.dp_command.specs.Due.{LeavesUnread}
 use Rattle.dp_command.specs.Inputs.{HasReadCause}
-use Rattle.dp_command.specs.Proved.{IsSound}
 use Rattle.dp_command.specs.Replies.{Replies}
-use Rattle.dp_command.specs.Tasks.{IfGood, IsSoundTask, IsTask, LeavesUnreadBy, Searches}
+use Rattle.dp_command.specs.Tasks.{IfGood, IsTask, LeavesUnreadBy, Searches}
 use Rattle.dp_command.specs.Texts.{status_of}
 use Rattle.dp_command.specs.declared.reply.Reply.{Reply}
 use Rattle.dp_command.specs.declared.task.Search.{Search}
@@ -19,9 +18,6 @@ use Rattle.dp_command.specs.declared.trouble.Trouble.TheVariants.{ReadFault}
 
 pub reply_due : (names : Option Files) (words : List (List ℕ)) (task : Task) (reply : Reply) → task ≡ Say reply → IsTask names words task → Replies names words reply
 reply_due names words task reply is h = subst (λ (t : Task). IsTask names words t) is h
-
-pub reply_sound : (names : Option Files) (words : List (List ℕ)) (task : Task) (reply : Reply) → task ≡ Say reply → IsSoundTask names words task → IsSound names words reply
-reply_sound names words task reply is h = subst (λ (t : Task). IsSoundTask names words t) is h
 
 pub reply_good : (X : Type 0) (task : Task) (reply : Reply) → task ≡ Say reply → IfGood task X → status_of reply ≡ 0 → X
 reply_good X task reply is h = subst (λ (t : Task). IfGood t X) is h

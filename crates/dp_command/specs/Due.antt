@@ -1,12 +1,12 @@
 -- What the answer and the file have to hold, and what a run leaves of a desk.
-use Rattle.std.specs.Prelude.{◌≡◌, ◌⊎◌, ◌++◌, ℕ, List, Option, Some, None}
+use Rattle.std.specs.Prelude.{◌≡◌, ◌⊎◌, ◌++◌, ℕ, List, IfSome, Option, Some, None}
 use Rattle.dp_desk.specs.Channel.{Channel, Files, Grows, GrowsByPart, IsAtEnd, Shut, Hidden, Shown}
 use Rattle.dp_desk.specs.Sight.{Sight}
 use Rattle.dp_command.specs.Replies.{Replies}
 use Rattle.dp_command.specs.Texts.{file_of, text_of, status_of, read_fault}
-use Rattle.dp_command.specs.Words.{Request, Check, Show, Process, Solve, Prove, Spells}
+use Rattle.dp_command.specs.Words.{Request, Check, Show, Process, Solve, Prove, IsAsked, Spells}
 use Rattle.dp_command.specs.declared.reply.Reply.{Reply}
-use Rattle.dp_command.specs.declared.reply.Reply.TheVariants.{NoCommand, ModelRefused}
+use Rattle.dp_command.specs.declared.reply.Reply.TheVariants.{ModelRefused}
 
 -- ---- a file
 
@@ -73,9 +73,8 @@ ChangesInputs was now = now ≡ record was { model = now.model; log = now.log }
 abbrev pub ChangesOutputs : Sight → Sight → Type 0
 ChangesOutputs was now = now ≡ record was { model = now.model; log = now.log; answer = now.answer; first = now.first }
 
--- the inputs that a refusal of the words or of the model does not need are as they were
+-- the log, which a refusal of the model does not need, is as it was
 abbrev pub LeavesUnread : Reply → Sight → Sight → Type 0
-LeavesUnread NoCommand was now = (now.model ≡ was.model) × (now.log ≡ was.log)
 LeavesUnread (ModelRefused refusal) was now = now.log ≡ was.log
 LeavesUnread reply was now = Unit {0}
 
@@ -86,6 +85,13 @@ LeavesUnasked (Show log) was now = now.model ≡ was.model
 LeavesUnasked (Process model scaffold out) was now = Unit {0}
 LeavesUnasked (Solve model out most) was now = now.log ≡ was.log
 LeavesUnasked (Prove model most) was now = now.log ≡ was.log
+
+-- the words are this command, or none, and the inputs that it does not ask for are as they were
+pub record Leaves (words : List (List ℕ)) (was now : Sight) : Type 0 where
+  pub command : Option Request
+  pub asked : IsAsked command words
+  pub left : IfSome command (λ request. LeavesUnasked request was now)
+  pub none : command ≡ None → (now.model ≡ was.model) × (now.log ≡ was.log)
 
 -- each input that is asked for was read to its end
 abbrev pub AreAtEnd : Request → Sight → Type 0

@@ -15,3 +15,4 @@ pub mod Found
 pub mod Solving
 pub mod Tasks
 pub mod Patience
+pub mod Promises

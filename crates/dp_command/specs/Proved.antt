@@ -19,9 +19,8 @@ use Rattle.dp_command.specs.Inputs.{IsRead}
 use Rattle.dp_command.specs.Replies.{IsGiven, most_of_log}
 use Rattle.dp_command.specs.Texts.{text_of}
 use Rattle.dp_command.specs.Truths.{IsTrueOf}
-use Rattle.dp_command.specs.Words.{Request, Check, Process, Spells}
+use Rattle.dp_command.specs.Words.{Check, Process, Spells}
 use Rattle.dp_command.specs.declared.reply.Claim.{Claim}
-use Rattle.dp_command.specs.declared.reply.Reply.{Reply}
 use Rattle.dp_command.specs.declared.reply.Reply.TheVariants.{Accepted}
 
 -- the words ask for a check of a model, and the claim is true of the model that its text spells
@@ -32,15 +31,6 @@ pub record IsProved (names : Option Files) (words : List (List ℕ)) (claim : Cl
   pub m : Plan
   pub given : IsGiven names model m
   pub holds : IsTrueOf m claim
-
--- a reply that accepts says what is true
-abbrev pub IsSound : Option Files → List (List ℕ) → Reply → Type 0
-IsSound names words (Accepted claim) = IsProved names words claim
-IsSound names words reply = Unit {0}
-
--- so it does for each spelling of what is asked for
-abbrev pub IsSoundTo : Option Files → Request → Reply → Type 0
-IsSoundTo names request reply = (words : List (List ℕ)) → Spells request words → IsSound names words reply
 
 -- a claim was written that is true of the model
 pub record SaysTruth (names : Option Files) (words : List (List ℕ)) (was now : Channel) : Type 0 where

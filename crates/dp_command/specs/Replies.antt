@@ -16,6 +16,7 @@ use Rattle.dp_command.specs.Inputs.{IsRead}
 use Rattle.dp_command.specs.Named.{claim_of}
 use Rattle.dp_command.specs.Outcomes.{IsOutcome}
 use Rattle.dp_command.specs.Proving.{IsProving}
+use Rattle.dp_command.specs.Truths.{IsTrueOf}
 use Rattle.dp_command.specs.Words.{Request, Check, Show, Process, Solve, Prove, Spells, AreNoCommand}
 use Rattle.dp_command.specs.declared.outcome.Outcome.{Outcome}
 use Rattle.dp_command.specs.declared.proving.Proving.{Proving}
@@ -73,7 +74,12 @@ pub record IsJudged (names : Option Files) (log : List ℕ) (p : Csp) (reply : R
   pub right : IsRightAnswer p (judged_log (posed p) lines)
   pub goal : IsGoalAnswer p (judged_log (posed p) lines)
 
--- the words ask for a check, a model is read, and its log is judged so
+-- a claim that is accepted is true of the model
+abbrev pub IsTrueReply : Plan → Reply → Type 0
+IsTrueReply m (Accepted claim) = IsTrueOf m claim
+IsTrueReply m reply = Unit {0}
+
+-- the words ask for a check, a model is read, and its log is judged so; what is accepted is true of the model
 pub record JudgesLog (names : Option Files) (words : List (List ℕ)) (reply : Reply) : Type 0 where
   pub model : List ℕ
   pub log : List ℕ
@@ -81,6 +87,7 @@ pub record JudgesLog (names : Option Files) (words : List (List ℕ)) (reply : R
   pub m : Plan
   pub given : IsGiven names model m
   pub judged : IsJudged names log (problem_of m) reply
+  pub holds : IsTrueReply m reply
 
 -- the words ask to show a log, and this is shown of the bytes that are read of it
 pub record ShowsLog (names : Option Files) (words : List (List ℕ)) (shown : Shown) : Type 0 where

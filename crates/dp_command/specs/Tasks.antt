@@ -6,7 +6,6 @@ use Rattle.dp_desk.specs.Sight.{Sight}
 use Rattle.fz_solve.specs.Solved.{Solved, SolvesFront}
 use Rattle.dp_command.specs.Due.{LeavesUnread}
 use Rattle.dp_command.specs.Found.{IsProblemOf}
-use Rattle.dp_command.specs.Proved.{IsSound}
 use Rattle.dp_command.specs.Replies.{IsGiven, Replies}
 use Rattle.dp_command.specs.Texts.{status_of}
 use Rattle.dp_command.specs.Words.{Request, Spells}
@@ -29,19 +28,11 @@ abbrev pub IsTask : Option Files → List (List ℕ) → Task → Type 0
 IsTask names words (Say reply) = Replies names words reply
 IsTask names words (Solve search) = Searches names words search
 
--- a reply that accepts says what is true
-abbrev pub IsSoundTask : Option Files → List (List ℕ) → Task → Type 0
-IsSoundTask names words (Say reply) = IsSound names words reply
-IsSoundTask names words (Solve search) = Unit {0}
-
 -- so it is for each spelling of what is asked for
 abbrev pub IsTaskTo : Option Files → Request → Task → Type 0
 IsTaskTo names request task = (words : List (List ℕ)) → Spells request words → IsTask names words task
 
-abbrev pub IsSoundTaskTo : Option Files → Request → Task → Type 0
-IsSoundTaskTo names request task = (words : List (List ℕ)) → Spells request words → IsSoundTask names words task
-
--- the inputs that a refusal of the words or of the model does not need are as they were
+-- the log, which a refusal of the model does not need, is as it was
 abbrev pub LeavesUnreadBy : Task → Sight → Sight → Type 0
 LeavesUnreadBy (Say reply) was now = LeavesUnread reply was now
 LeavesUnreadBy (Solve search) was now = Unit {0}

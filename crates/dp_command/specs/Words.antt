@@ -1,5 +1,5 @@
 -- The words of a command line, and the commands that they are.
-use Rattle.std.specs.Prelude.{◌≡◌, ℕ, ◌≤◌, List, [], ◌∷◌, length, codes}
+use Rattle.std.specs.Prelude.{◌≡◌, ℕ, ◌≤◌, Option, Some, None, List, [], ◌∷◌, length, codes}
 use Rattle.std.specs.Str.Parse.{IsNumeral, digits_value}
 
 -- what the words ask for
@@ -79,3 +79,8 @@ AreNoOther words = (request : Request) → IsOther request → Spells request wo
 -- the words are no command
 abbrev pub AreNoCommand : List (List ℕ) → Type 0
 AreNoCommand words = (request : Request) → Spells request words → ⊥
+
+-- the words are this command, or none
+abbrev pub IsAsked : Option Request → List (List ℕ) → Type 0
+IsAsked None words = AreNoCommand words
+IsAsked (Some request) words = Spells request words

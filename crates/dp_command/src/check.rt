@@ -9,7 +9,6 @@ ghost use Rattle.dp_command.specs.Inputs.{HasReadCause};
 ghost use Rattle.dp_command.specs.Due.{AreAtEnd, ChangesInputs, LeavesUnread};
 ghost use Rattle.dp_command.specs.Patience.{HasPatience};
 ghost use Rattle.dp_command.specs.Pieces.{IsPatient};
-ghost use Rattle.dp_command.specs.Proved.{IsSoundTo};
 ghost use Rattle.dp_command.specs.Replies.{IsJudged, RepliesTo, reply_of};
 ghost use Rattle.dp_command.specs.Texts.{status_of};
 ghost use Rattle.dp_command.specs.Words.{Check};
@@ -35,7 +34,6 @@ pub(crate) fn check<D: Desk>(
     desk: &mut D,
 ) -> Result<Reply, Trouble>
     ensures due { IfOk result (λ reply. RepliesTo (D.sight desk.old).names (Check model.now log.now) reply) }
-    ensures sound { IfOk result (λ reply. IsSoundTo (D.sight desk.old).names (Check model.now log.now) reply) }
     ensures ended { IfOk result (λ reply. status_of reply ≡ 0 → AreAtEnd (Check model.now log.now) (D.sight desk.new)) }
     ensures patient { IsErrOf result ReadFault → HasPatience (D.sight desk.old).names (Check model.now log.now) (D.sight desk.old).log (D.sight desk.new).log }
     ensures unread { IfOk result (λ reply. LeavesUnread reply (D.sight desk.old) (D.sight desk.new)) }

@@ -5,14 +5,13 @@ ghost use Rattle.dp_desk.specs.Channel.{Grows};
 ghost use Rattle.dp_desk.specs.Causes.{Rose};
 ghost use Rattle.dp_command.specs.Asked.{asked};
 ghost use Rattle.dp_command.specs.Patience.{HasPatience, WasPatient};
-ghost use Rattle.dp_command.specs.Words.{IsCheck, IsInRange, IsProcess, IsProve, IsShow, IsSolve};
+ghost use Rattle.dp_command.specs.Words.{IsInRange, IsProcess, IsSolve};
 ghost use Rattle.dp_command.specs.declared.trouble.Trouble.TheVariants.{ReadFault};
 ghost use Rattle.dp_command.specs.Inputs.{HasReadCause};
-ghost use Rattle.dp_command.specs.Due.{Said, SaidPart, ChangesInputs, ChangesOutputs, LeavesUnasked, AreAtEnd, ReadsToEnd};
-ghost use Rattle.dp_command.specs.Proved.{FilesProof, SaysTruth};
-ghost use Rattle.dp_command.specs.Proven.{PassesLimit, SaysProof};
+ghost use Rattle.dp_command.specs.Due.{Said, SaidPart, ChangesInputs, ChangesOutputs, Leaves, LeavesUnasked, AreAtEnd, ReadsToEnd};
+ghost use Rattle.dp_command.specs.Promises.{Answers, AreTrue, CountsFaults, LeavesFronts, Touches};
 ghost use Rattle.dp_command.specs.Solving.{IsReplied, IsSolved, SolvesModel, SolvesModelPart};
-ghost use Rattle.dp_command.specs.Tasks.{IfGood, IsSoundTask, IsSoundTaskTo, IsTask, IsTaskTo, LeavesUnreadBy};
+ghost use Rattle.dp_command.specs.Tasks.{IfGood, IsTask, IsTaskTo, LeavesUnreadBy};
 ghost use Rattle.dp_command.specs.Texts.{read_fault};
 
 use crate::check::check;
@@ -39,44 +38,36 @@ use std::alloc::Global;
 /// nothing but a write can fail, before the answer; the scaffold of a model that is solved is opened where the model is
 /// not refused, and is written while it is solved; a model is proved without a file.
 pub fn run<D: Desk>(alloc: Global, words: &[&str], desk: &mut D) -> u8
-    // The status, the file and the text are those of the reply that belongs to the words and the inputs.
+    // Which status, which file and which text.
+    ensures answered { let texts = map (λ w. w.now) words.now in Answers (D.sight desk.old).names texts result (D.sight desk.old) (D.sight desk.new) }
+    // What that says of the model and of the scaffold is so.
+    ensures holds { let texts = map (λ w. w.now) words.now in AreTrue (D.sight desk.old).names texts result (D.sight desk.old) (D.sight desk.new) }
+    // Which inputs and outputs are opened, and which are read to their end.
+    ensures touched { let texts = map (λ w. w.now) words.now in Touches texts result (D.sight desk.old) (D.sight desk.new) }
+    // Faults have a cause and are never hidden.
+    ensures faults { let texts = map (λ w. w.now) words.now in CountsFaults (D.sight desk.old).names texts result (D.faults_in desk.old) (D.faults_in desk.new) (D.faults_out desk.old) (D.faults_out desk.new) (D.sight desk.old) (D.sight desk.new) }
+    // After a failed write and for want of memory fronts of what was due stand there.
+    ensures fronts { let texts = map (λ w. w.now) words.now in LeavesFronts (D.sight desk.old).names texts result (Rose (D.faults_in desk.old) (D.faults_in desk.new)) (D.sight desk.old) (D.sight desk.new) }
+{
+    perform(alloc, words, desk)
+}
+
+// Does what the words ask for: the facts of which those of the top call are made.
+fn perform<D: Desk>(alloc: Global, words: &[&str], desk: &mut D) -> u8
     ensures answered { let texts = map (λ w. w.now) words.now in IsReplied texts result → Said (D.sight desk.old).names texts result (D.sight desk.old) (D.sight desk.new) }
-
-    // A solved model's scaffold stands in the file, and its outcome, which is true of the model, is the answer.
     ensures solved { let texts = map (λ w. w.now) words.now in IsSolved texts result → SolvesModel (D.sight desk.old).names texts result (D.sight desk.old) (D.sight desk.new) }
-
-    // What a check writes of an accepted log is true of the model, in the meaning of its constraints.
-    ensures sound { let texts = map (λ w. w.now) words.now in result ≡ 0 → IsCheck texts → SaysTruth (D.sight desk.old).names texts (D.sight desk.old).answer (D.sight desk.new).answer }
-
-    // What stands in the file of a processed scaffold is its processed log, and each nogood that its claim rests on follows.
-    ensures processed { let texts = map (λ w. w.now) words.now in result ≡ 0 → IsProcess texts → FilesProof (D.sight desk.old).names texts (D.sight desk.new).first }
-    // What is printed of a proved model is true of it; what is accepted there was claimed by a log that a check accepts.
-    ensures proved { let texts = map (λ w. w.now) words.now in IsProve texts → result ≡ 0 ⊎ (result ≡ 4) → SaysProof (D.sight desk.old).names texts result (D.sight desk.old).answer (D.sight desk.new).answer }
-
-    // A proof is refused only where its scaffold or its log passes a limit.
-    ensures limits { let texts = map (λ w. w.now) words.now in IsProve texts → result ≡ 1 → PassesLimit (D.sight desk.old).names texts }
     ensures ended { let texts = map (λ w. w.now) words.now in result ≡ 0 → ReadsToEnd texts (D.sight desk.new) }
-    ensures unread_words { result ≡ 2 → (D.sight desk.new).model ≡ (D.sight desk.old).model × ((D.sight desk.new).log ≡ (D.sight desk.old).log) }
     ensures unread_log { result ≡ 3 → (D.sight desk.new).log ≡ (D.sight desk.old).log }
-    ensures unread_log_by_solve { let texts = map (λ w. w.now) words.now in IsSolve texts → (D.sight desk.new).log ≡ (D.sight desk.old).log }
-    ensures unread_log_by_prove { let texts = map (λ w. w.now) words.now in IsProve texts → (D.sight desk.new).log ≡ (D.sight desk.old).log }
-    ensures unread_model { let texts = map (λ w. w.now) words.now in IsShow texts → (D.sight desk.new).model ≡ (D.sight desk.old).model }
-
-    // The file is opened only to process a scaffold, and only where that is done, or to solve a model.
+    ensures unasked { let texts = map (λ w. w.now) words.now in Leaves texts (D.sight desk.old) (D.sight desk.new) }
     ensures unfiled_words { let texts = map (λ w. w.now) words.now in (IsProcess texts → ⊥) → (IsSolve texts → ⊥) → (D.sight desk.new).first ≡ (D.sight desk.old).first }
     ensures unfiled { let texts = map (λ w. w.now) words.now in result ≢ 0 → result ≢ 6 → (IsSolve texts → result ≢ 4 × (result ≢ 7)) → (D.sight desk.new).first ≡ (D.sight desk.old).first }
-
-    // Faults come only where an input or an output failed, and are never hidden.
     ensures read_fault { result ≡ 5 → Rose (D.faults_in desk.old) (D.faults_in desk.new) × Grows (D.sight desk.old).answer (D.sight desk.new).answer read_fault }
     ensures write_fault { result ≡ 6 → Rose (D.faults_out desk.old) (D.faults_out desk.new) }
-    // A read fault comes only where no line that was read whole before it is refused.
     ensures patient { let texts = map (λ w. w.now) words.now in result ≡ 5 → WasPatient (D.sight desk.old).names texts (D.sight desk.old).log (D.sight desk.new).log }
     ensures in_seen { D.faults_in desk.old < D.faults_in desk.new → 5 ≤ result }
     ensures out_seen { let texts = map (λ w. w.now) words.now in D.faults_out desk.old < D.faults_out desk.new → result ≡ 6 ⊎ (result ≡ 7 × IsSolve texts) }
     ensures in_counted { D.faults_in desk.old ≤ D.faults_in desk.new }
     ensures out_counted { D.faults_out desk.old ≤ D.faults_out desk.new }
-
-    // After a failed write fronts of what was due stand there, and nothing more; and so for want of memory of a solve.
     ensures front { let texts = map (λ w. w.now) words.now in result ≡ 6 → SaidPart (D.sight desk.old).names texts (Rose (D.faults_in desk.old) (D.faults_in desk.new)) (D.sight desk.old) (D.sight desk.new) ⊎ SolvesModelPart (D.sight desk.old).names texts (D.sight desk.old) (D.sight desk.new) }
     ensures left { let texts = map (λ w. w.now) words.now in result ≡ 7 → IsSolve texts → (D.sight desk.new).first ≡ (D.sight desk.old).first ⊎ SolvesModelPart (D.sight desk.old).names texts (D.sight desk.old) (D.sight desk.new) }
     ensures nothing { result ≡ 7 → (D.sight desk.new).answer ≡ (D.sight desk.old).answer }
@@ -99,13 +90,10 @@ pub fn run<D: Desk>(alloc: Global, words: &[&str], desk: &mut D) -> u8
 // Reads and judges what the words ask for, and writes nothing.
 fn task_of<D: Desk>(alloc: Global, words: &[&str], desk: &mut D) -> Result<Task, Trouble>
     ensures due { let texts = map (λ w. w.now) words.now in IfOk result (IsTask (D.sight desk.old).names texts) }
-    ensures sound { let texts = map (λ w. w.now) words.now in IfOk result (IsSoundTask (D.sight desk.old).names texts) }
     ensures ended { let texts = map (λ w. w.now) words.now in IfOk result (λ task. IfGood task (ReadsToEnd texts (D.sight desk.new))) }
     ensures patient { let texts = map (λ w. w.now) words.now in IsErrOf result ReadFault → WasPatient (D.sight desk.old).names texts (D.sight desk.old).log (D.sight desk.new).log }
     ensures unread { IfOk result (λ task. LeavesUnreadBy task (D.sight desk.old) (D.sight desk.new)) }
-    ensures unread_model { let texts = map (λ w. w.now) words.now in IsShow texts → (D.sight desk.new).model ≡ (D.sight desk.old).model }
-    ensures unread_log { let texts = map (λ w. w.now) words.now in IsSolve texts → (D.sight desk.new).log ≡ (D.sight desk.old).log }
-    ensures unread_log_too { let texts = map (λ w. w.now) words.now in IsProve texts → (D.sight desk.new).log ≡ (D.sight desk.old).log }
+    ensures unasked { let texts = map (λ w. w.now) words.now in Leaves texts (D.sight desk.old) (D.sight desk.new) }
     ensures rest { ChangesInputs (D.sight desk.old) (D.sight desk.new) }
     ensures cause { HasReadCause (D.faults_in desk.old) (D.faults_in desk.new) result }
     ensures other { D.faults_out desk.new ≡ D.faults_out desk.old }
@@ -120,7 +108,6 @@ fn task_of<D: Desk>(alloc: Global, words: &[&str], desk: &mut D) -> Result<Task,
 fn obey<D: Desk>(alloc: Global, command: Command<'_>, desk: &mut D) -> Result<Task, Trouble>
     requires { IsInRange (asked command) }
     ensures due { IfOk result (IsTaskTo (D.sight desk.old).names (asked command.entry)) }
-    ensures sound { IfOk result (IsSoundTaskTo (D.sight desk.old).names (asked command.entry)) }
     ensures ended { IfOk result (λ task. IfGood task (AreAtEnd (asked command.entry) (D.sight desk.new))) }
     ensures patient { IsErrOf result ReadFault → HasPatience (D.sight desk.old).names (asked command.entry) (D.sight desk.old).log (D.sight desk.new).log }
     ensures unread { IfOk result (λ task. LeavesUnreadBy task (D.sight desk.old) (D.sight desk.new)) }

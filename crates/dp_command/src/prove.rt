@@ -5,7 +5,6 @@ ghost use Rattle.dp_desk.specs.Sight.{with_input};
 ghost use Rattle.dp_command.specs.Due.{AreAtEnd, LeavesUnread};
 ghost use Rattle.dp_command.specs.Found.{IsProblemOf};
 ghost use Rattle.dp_command.specs.Inputs.{HasReadCause};
-ghost use Rattle.dp_command.specs.Proved.{IsSoundTo};
 ghost use Rattle.dp_command.specs.Proving.{IsAimed, IsProving, proving_of};
 ghost use Rattle.dp_command.specs.Replies.{RepliesTo};
 ghost use Rattle.dp_command.specs.Texts.{status_of};
@@ -34,7 +33,6 @@ pub(crate) fn prove<D: Desk>(
     requires some { 1 ≤ conflicts }
     requires few { conflicts ≤ 4000000000 }
     ensures due { IfOk result (λ reply. RepliesTo (D.sight desk.old).names (Prove model.now conflicts) reply) }
-    ensures sound { IfOk result (λ reply. IsSoundTo (D.sight desk.old).names (Prove model.now conflicts) reply) }
     ensures ended { IfOk result (λ reply. status_of reply ≡ 0 → AreAtEnd (Prove model.now conflicts) (D.sight desk.new)) }
     ensures unread { IfOk result (λ reply. LeavesUnread reply (D.sight desk.old) (D.sight desk.new)) }
     ensures rest { D.sight desk.new ≡ with_input In.Model (D.sight desk.new).model (D.sight desk.old) }

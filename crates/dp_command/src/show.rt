@@ -6,7 +6,6 @@ ghost use Rattle.dp_command.specs.Inputs.{HasReadCause};
 ghost use Rattle.dp_command.specs.Due.{AreAtEnd, LeavesUnread};
 ghost use Rattle.dp_command.specs.Pieces.{IsPatient};
 ghost use Rattle.dp_command.specs.Replies.{RepliesTo};
-ghost use Rattle.dp_command.specs.Proved.{IsSoundTo};
 ghost use Rattle.dp_command.specs.Texts.{status_of};
 ghost use Rattle.dp_command.specs.Words.{Show};
 ghost use Rattle.dp_command.specs.declared.trouble.Trouble.TheVariants.{ReadFault};
@@ -23,7 +22,6 @@ use std::alloc::Global;
 /// Shows a log while it is read, and writes nothing. The log alone is opened.
 pub(crate) fn show<D: Desk>(alloc: Global, log: &str, desk: &mut D) -> Result<Reply, Trouble>
     ensures due { IfOk result (λ reply. RepliesTo (D.sight desk.old).names (Show log.now) reply) }
-    ensures sound { IfOk result (λ reply. IsSoundTo (D.sight desk.old).names (Show log.now) reply) }
     ensures ended { IfOk result (λ reply. status_of reply ≡ 0 → AreAtEnd (Show log.now) (D.sight desk.new)) }
     ensures patient { IsErrOf result ReadFault → IsPatient has_no_refusal (D.sight desk.old).names log.now (D.sight desk.old).log (D.sight desk.new).log }
     ensures unread { IfOk result (λ reply. LeavesUnread reply (D.sight desk.old) (D.sight desk.new)) }

@@ -7,7 +7,7 @@ ghost use Rattle.dp_parts.specs.Problems.{IsSolution};
 ghost use Rattle.fz_sat.specs.Satisfies.{Satisfies};
 ghost use Rattle.dp_command.specs.Due.{AreAtEnd};
 ghost use Rattle.dp_command.specs.Inputs.{HasReadCause};
-ghost use Rattle.dp_command.specs.Tasks.{IfGood, IsSearched, IsSoundTaskTo, IsTaskTo, LeavesUnreadBy};
+ghost use Rattle.dp_command.specs.Tasks.{IfGood, IsSearched, IsTaskTo, LeavesUnreadBy};
 ghost use Rattle.dp_command.specs.Words.{Solve};
 
 use crate::finding::{Found, read_problem};
@@ -28,7 +28,6 @@ pub(crate) fn solve<D: Desk>(
     desk: &mut D,
 ) -> Result<Task, Trouble>
     ensures due { IfOk result (IsTaskTo (D.sight desk.old).names (Solve model.now out.now conflicts)) }
-    ensures sound { IfOk result (IsSoundTaskTo (D.sight desk.old).names (Solve model.now out.now conflicts)) }
     ensures ended { IfOk result (λ task. IfGood task (AreAtEnd (Solve model.now out.now conflicts) (D.sight desk.new))) }
     ensures unread { IfOk result (λ task. LeavesUnreadBy task (D.sight desk.old) (D.sight desk.new)) }
     ensures rest { D.sight desk.new ≡ with_input In.Model (D.sight desk.new).model (D.sight desk.old) }

@@ -4,18 +4,13 @@ use Rattle.dp_desk.specs.Sight.{Sight}
 use Rattle.dp_command.specs.Found.{IsFound}
 use Rattle.dp_command.specs.Words.{Check}
 use Rattle.dp_command.specs.declared.finding.Found.{Found}
-use Rattle.dp_command.proofs.Checks.{due_at, ended_at, if_ok, refused_of, sound_at, unread_of}
+use Rattle.dp_command.proofs.Checks.{due_at, ended_at, if_ok, refused_of, unread_of}
 use Rattle.dp_command.proofs.Patience.{check_patient}
 use Rattle.dp_command.proofs.check.check.Goals as goal
 
 pub returns-in-Problem-clause-due : goal.returns-in-Problem-clause-due
 returns-in-Problem-clause-due g c =
     if_ok c.judge_input.result (λ reply j. due_at (g.D.Desk.sight c.args.desk.now).names _ c.args.model.now c.args.log.now _ c.in-Problem.problem reply c.in_ok-_model.field-0
-    (ap (λ (t : Sight). t.names) c.read_problem.ensures.rest) c.in-Problem.is c.in_ok-_model.ensures.read j) c.judge_input.ensures.reply
-
-pub returns-in-Problem-clause-sound : goal.returns-in-Problem-clause-sound
-returns-in-Problem-clause-sound g c =
-    if_ok c.judge_input.result (λ reply j. sound_at (g.D.Desk.sight c.args.desk.now).names _ c.args.model.now c.args.log.now _ c.in-Problem.problem reply c.in_ok-_model.field-0
     (ap (λ (t : Sight). t.names) c.read_problem.ensures.rest) c.in-Problem.is c.in_ok-_model.ensures.read j) c.judge_input.ensures.reply
 
 pub returns-in-Problem-clause-ended : goal.returns-in-Problem-clause-ended

@@ -1,5 +1,5 @@
 -- What is judged of an input, piece by piece.
-use Rattle.std.proofs.Common.{◌++◌, ◌≤◌, length, ◌+◌, ◌-◌, take, drop, ◌∙◌, refl, sym, subst}
+use Rattle.std.proofs.Common.{◌++◌, ◌≤◌, length, take, drop, ◌∙◌, refl, sym, subst}
 use Rattle.dp_desk.specs.Sight.{input}
 use Rattle.dp_command.proofs.Taken.{changes-both, count-less, few-left, some-room, refused-judges, some-of, takes-both}
 use Rattle.dp_command.proofs.judging.judge_to_bound.Goals as goal

@@ -2,7 +2,6 @@
 use Rattle.std.proofs.Common.{sym, subst}
 use Rattle.dp_command.specs.Asked.{asked}
 use Rattle.dp_command.specs.Patience.{HasPatience}
-use Rattle.dp_command.specs.Proved.{IsSoundTo}
 use Rattle.dp_command.specs.Replies.{RepliesTo}
 use Rattle.dp_command.specs.declared.words.Command.{Command}
 use Rattle.dp_command.proofs.Patience.{handed_on}
@@ -23,10 +22,6 @@ returns-in_ok-process-in-Process-clause-due g c =
 pub returns-in_ok-prove-in-Prove-clause-due : goal.returns-in_ok-prove-in-Prove-clause-due
 returns-in_ok-prove-in-Prove-clause-due g c =
     subst (λ (k : Command). RepliesTo (g.D.Desk.sight c.args.desk.now).names (asked k) c.in_ok-prove-in-Prove.field-0) (sym c.in-Prove.is) c.in_ok-prove-in-Prove.ensures.due
-
-pub returns-in_ok-prove-in-Prove-clause-sound : goal.returns-in_ok-prove-in-Prove-clause-sound
-returns-in_ok-prove-in-Prove-clause-sound g c =
-    subst (λ (k : Command). IsSoundTo (g.D.Desk.sight c.args.desk.now).names (asked k) c.in_ok-prove-in-Prove.field-0) (sym c.in-Prove.is) c.in_ok-prove-in-Prove.ensures.sound
 
 -- ---- a read fault that is handed on
 

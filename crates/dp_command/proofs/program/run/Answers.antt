@@ -1,157 +1,47 @@
--- What was said of a reply, and what a search left.
-use Rattle.std.specs.Prelude.{ℕ}
-use Rattle.std.proofs.Common.{◌∙◌, inl, inr, refl, subst, sym}
-use Rattle.dp_desk.specs.Causes.{Rose}
-use Rattle.dp_command.proofs.Patience.{said_patient}
+-- The facts of a run, gathered.
 use Rattle.dp_command.proofs.Proves.{good_small, limit_said, one_small, says_said}
-use Rattle.dp_command.proofs.Says.{ended_said, filed_said, front_fault, front_said, handed_small, not_five, not_seven, refused_said, rest_said, rose_said, said_known, said_of, truth_said, unfiled, unfiled_words, unread_said, unsolved, zero_small}
-use Rattle.dp_command.proofs.Solves.{front_search, left_search, search_ends, search_not_five, searched_words, seen_search, solved_search, unopened}
-use Rattle.dp_command.proofs.Tasks.{fault_is, fault_rose, reply_due, reply_good, reply_sound, reply_unread, search_due, search_good}
-use Rattle.dp_command.specs.Due.{ReadsToEnd}
-use Rattle.dp_command.specs.Texts.{file_of}
+use Rattle.dp_command.proofs.Requests.{solve_proves_not}
+use Rattle.dp_command.proofs.Says.{filed_said, truth_said, zero_small}
+use Rattle.dp_command.proofs.Touches.{check_solves_not, process_solves_not, replied_by, touches_of}
 use Rattle.dp_command.proofs.program.run.Goals as goal
 
--- ---- a reply
+pub returns-clause-answered : goal.returns-clause-answered
+returns-clause-answered g c = record {
+  replied = c.perform.ensures.answered;
+  solved = c.perform.ensures.solved;
+  fault = λ e. (c.perform.ensures.read_fault e).1;
+  nothing = c.perform.ensures.nothing;
+  known = c.perform.ensures.known;
+}
 
-pub returns-in-Ok-text-clause-answered : goal.returns-in-Ok-text-clause-answered
-returns-in-Ok-text-clause-answered g c =
-    λ replied.
-    said_of (g.D.Desk.sight c.args.desk.now).names _ c.in-Say.reply (g.D.Desk.sight c.args.desk.now) (g.D.Desk.sight c.task_of.new.desk) (g.D.Desk.sight c.hand_over.new.desk) c.hand_over.result c.as_slice.result.now (g.D.Desk.faults_out c.task_of.new.desk) (g.D.Desk.faults_out c.hand_over.new.desk)
-    c.task_of.ensures.rest (reply_due (g.D.Desk.sight c.args.desk.now).names _ c.in-Ok.task c.in-Say.reply c.in-Say.is c.in-Ok.ensures.due) (c.as_slice.ensures.value ∙ c.in-Ok-text.ensures) c.hand_over.ensures.said replied.0
+pub returns-clause-holds : goal.returns-clause-holds
+returns-clause-holds g c =
+    let names = (g.D.Desk.sight c.args.desk.now).names in
+    let r = c.perform.result in
+    let was = g.D.Desk.sight c.args.desk.now in
+    let now = g.D.Desk.sight c.perform.new.desk in
+    record {
+      check = λ check e. truth_said names _ r was now (c.perform.ensures.answered (replied_by _ r (zero_small r e) (check_solves_not _ check))) check e;
+      process = λ process e. filed_said names _ was now r (c.perform.ensures.answered (replied_by _ r (zero_small r e) (process_solves_not _ process))) process e;
+      prove = λ prove good. says_said names _ r was now (c.perform.ensures.answered (replied_by _ r (good_small r good) (λ solve. solve_proves_not _ solve prove))) prove good;
+      limits = λ prove e. limit_said names _ r was now (c.perform.ensures.answered (replied_by _ r (one_small r e) (λ solve. solve_proves_not _ solve prove))) prove e;
+    }
 
-pub returns-in-Ok-text-clause-solved : goal.returns-in-Ok-text-clause-solved
-returns-in-Ok-text-clause-solved g c =
-    λ h. absurd (unsolved (g.D.Desk.sight c.args.desk.now).names _ c.in-Say.reply (g.D.Desk.sight c.task_of.new.desk) (g.D.Desk.sight c.hand_over.new.desk) c.hand_over.result c.as_slice.result.now (g.D.Desk.faults_out c.task_of.new.desk) (g.D.Desk.faults_out c.hand_over.new.desk)
-    (reply_due (g.D.Desk.sight c.args.desk.now).names _ c.in-Ok.task c.in-Say.reply c.in-Say.is c.in-Ok.ensures.due) c.hand_over.ensures.said h)
+pub returns-clause-touched : goal.returns-clause-touched
+returns-clause-touched g c =
+    touches_of _ c.perform.result (g.D.Desk.sight c.args.desk.now) (g.D.Desk.sight c.perform.new.desk) c.perform.ensures.ended c.perform.ensures.unread_log
+    c.perform.ensures.unfiled_words c.perform.ensures.unfiled (g.D.Desk.sight c.args.desk.now).names c.perform.ensures.answered c.perform.ensures.unasked c.perform.ensures.rest
 
-pub returns-in-Ok-text-clause-sound : goal.returns-in-Ok-text-clause-sound
-returns-in-Ok-text-clause-sound g c =
-    truth_said (g.D.Desk.sight c.args.desk.now).names _ c.in-Say.reply (g.D.Desk.sight c.args.desk.now) (g.D.Desk.sight c.task_of.new.desk) (g.D.Desk.sight c.hand_over.new.desk) c.hand_over.result c.as_slice.result.now (g.D.Desk.faults_out c.task_of.new.desk) (g.D.Desk.faults_out c.hand_over.new.desk)
-    c.task_of.ensures.rest (reply_due (g.D.Desk.sight c.args.desk.now).names _ c.in-Ok.task c.in-Say.reply c.in-Say.is c.in-Ok.ensures.due) (reply_sound (g.D.Desk.sight c.args.desk.now).names _ c.in-Ok.task c.in-Say.reply c.in-Say.is c.in-Ok.ensures.sound) (c.as_slice.ensures.value ∙ c.in-Ok-text.ensures) c.hand_over.ensures.said
+pub returns-clause-faults : goal.returns-clause-faults
+returns-clause-faults g c = record {
+  read = λ e. (c.perform.ensures.read_fault e).0;
+  patient = c.perform.ensures.patient;
+  write = c.perform.ensures.write_fault;
+  in_seen = c.perform.ensures.in_seen;
+  out_seen = c.perform.ensures.out_seen;
+  in_counted = c.perform.ensures.in_counted;
+  out_counted = c.perform.ensures.out_counted;
+}
 
-pub returns-in-Ok-text-clause-processed : goal.returns-in-Ok-text-clause-processed
-returns-in-Ok-text-clause-processed g c =
-    λ e process.
-    filed_said (g.D.Desk.sight c.args.desk.now).names _ (g.D.Desk.sight c.args.desk.now) (g.D.Desk.sight c.hand_over.new.desk) c.hand_over.result
-    (said_of (g.D.Desk.sight c.args.desk.now).names _ c.in-Say.reply (g.D.Desk.sight c.args.desk.now) (g.D.Desk.sight c.task_of.new.desk) (g.D.Desk.sight c.hand_over.new.desk) c.hand_over.result c.as_slice.result.now (g.D.Desk.faults_out c.task_of.new.desk) (g.D.Desk.faults_out c.hand_over.new.desk)
-    c.task_of.ensures.rest (reply_due (g.D.Desk.sight c.args.desk.now).names _ c.in-Ok.task c.in-Say.reply c.in-Say.is c.in-Ok.ensures.due) (c.as_slice.ensures.value ∙ c.in-Ok-text.ensures) c.hand_over.ensures.said (zero_small c.hand_over.result e)) process e
-
-pub returns-in-Ok-text-clause-proved : goal.returns-in-Ok-text-clause-proved
-returns-in-Ok-text-clause-proved g c =
-    λ prove good.
-    says_said (g.D.Desk.sight c.args.desk.now).names _ c.hand_over.result (g.D.Desk.sight c.args.desk.now) (g.D.Desk.sight c.hand_over.new.desk)
-    (said_of (g.D.Desk.sight c.args.desk.now).names _ c.in-Say.reply (g.D.Desk.sight c.args.desk.now) (g.D.Desk.sight c.task_of.new.desk) (g.D.Desk.sight c.hand_over.new.desk) c.hand_over.result c.as_slice.result.now (g.D.Desk.faults_out c.task_of.new.desk) (g.D.Desk.faults_out c.hand_over.new.desk)
-    c.task_of.ensures.rest (reply_due (g.D.Desk.sight c.args.desk.now).names _ c.in-Ok.task c.in-Say.reply c.in-Say.is c.in-Ok.ensures.due) (c.as_slice.ensures.value ∙ c.in-Ok-text.ensures) c.hand_over.ensures.said (good_small c.hand_over.result good)) prove good
-
-pub returns-in-Ok-text-clause-limits : goal.returns-in-Ok-text-clause-limits
-returns-in-Ok-text-clause-limits g c =
-    λ prove e.
-    limit_said (g.D.Desk.sight c.args.desk.now).names _ c.hand_over.result (g.D.Desk.sight c.args.desk.now) (g.D.Desk.sight c.hand_over.new.desk)
-    (said_of (g.D.Desk.sight c.args.desk.now).names _ c.in-Say.reply (g.D.Desk.sight c.args.desk.now) (g.D.Desk.sight c.task_of.new.desk) (g.D.Desk.sight c.hand_over.new.desk) c.hand_over.result c.as_slice.result.now (g.D.Desk.faults_out c.task_of.new.desk) (g.D.Desk.faults_out c.hand_over.new.desk)
-    c.task_of.ensures.rest (reply_due (g.D.Desk.sight c.args.desk.now).names _ c.in-Ok.task c.in-Say.reply c.in-Say.is c.in-Ok.ensures.due) (c.as_slice.ensures.value ∙ c.in-Ok-text.ensures) c.hand_over.ensures.said (one_small c.hand_over.result e)) prove e
-
-pub returns-in-Ok-text-clause-ended : goal.returns-in-Ok-text-clause-ended
-returns-in-Ok-text-clause-ended g c =
-    ended_said _ c.in-Say.reply (g.D.Desk.sight c.task_of.new.desk) (g.D.Desk.sight c.hand_over.new.desk) c.hand_over.result _ c.as_slice.result.now
-    (g.D.Desk.faults_out c.task_of.new.desk) (g.D.Desk.faults_out c.hand_over.new.desk) c.hand_over.ensures.rest (reply_good (ReadsToEnd _ (g.D.Desk.sight c.task_of.new.desk)) c.in-Ok.task c.in-Say.reply c.in-Say.is c.in-Ok.ensures.ended) c.hand_over.ensures.said
-
-pub returns-in-Ok-text-clause-unread_words : goal.returns-in-Ok-text-clause-unread_words
-returns-in-Ok-text-clause-unread_words g c =
-    unread_said c.in-Say.reply (g.D.Desk.sight c.args.desk.now) (g.D.Desk.sight c.task_of.new.desk) (g.D.Desk.sight c.hand_over.new.desk) c.hand_over.result _ c.as_slice.result.now (g.D.Desk.faults_out c.task_of.new.desk) (g.D.Desk.faults_out c.hand_over.new.desk)
-    c.hand_over.ensures.rest (reply_unread (g.D.Desk.sight c.args.desk.now) (g.D.Desk.sight c.task_of.new.desk) c.in-Ok.task c.in-Say.reply c.in-Say.is c.in-Ok.ensures.unread) c.hand_over.ensures.said
-
-pub returns-in-Ok-text-clause-unfiled_words : goal.returns-in-Ok-text-clause-unfiled_words
-returns-in-Ok-text-clause-unfiled_words g c =
-    λ process solve.
-    unfiled_words (g.D.Desk.sight c.args.desk.now).names _ c.in-Say.reply c.as_slice.result.now c.hand_over.result (g.D.Desk.sight c.args.desk.now) (g.D.Desk.sight c.task_of.new.desk) (g.D.Desk.sight c.hand_over.new.desk)
-    (g.D.Desk.faults_out c.task_of.new.desk) (g.D.Desk.faults_out c.hand_over.new.desk) c.task_of.ensures.rest (reply_due (g.D.Desk.sight c.args.desk.now).names _ c.in-Ok.task c.in-Say.reply c.in-Say.is c.in-Ok.ensures.due) c.hand_over.ensures.said process
-
-pub returns-in-Ok-text-clause-unfiled : goal.returns-in-Ok-text-clause-unfiled
-returns-in-Ok-text-clause-unfiled g c =
-    λ done fault other.
-    unfiled c.in-Say.reply c.as_slice.result.now c.hand_over.result (g.D.Desk.sight c.args.desk.now) (g.D.Desk.sight c.task_of.new.desk) (g.D.Desk.sight c.hand_over.new.desk)
-    (g.D.Desk.faults_out c.task_of.new.desk) (g.D.Desk.faults_out c.hand_over.new.desk) c.task_of.ensures.rest c.hand_over.ensures.said done fault
-
-pub returns-in-Ok-text-clause-read_fault : goal.returns-in-Ok-text-clause-read_fault
-returns-in-Ok-text-clause-read_fault g c =
-    λ e. absurd (not_five c.hand_over.result (handed_small c.in-Say.reply c.as_slice.result.now (file_of c.in-Say.reply) (g.D.Desk.sight c.task_of.new.desk) (g.D.Desk.sight c.hand_over.new.desk) c.hand_over.result (g.D.Desk.faults_out c.task_of.new.desk) (g.D.Desk.faults_out c.hand_over.new.desk) c.hand_over.ensures.said) e)
-
-pub returns-in-Ok-text-clause-patient : goal.returns-in-Ok-text-clause-patient
-returns-in-Ok-text-clause-patient g c =
-    λ e. absurd (not_five c.hand_over.result (handed_small c.in-Say.reply c.as_slice.result.now (file_of c.in-Say.reply) (g.D.Desk.sight c.task_of.new.desk) (g.D.Desk.sight c.hand_over.new.desk) c.hand_over.result (g.D.Desk.faults_out c.task_of.new.desk) (g.D.Desk.faults_out c.hand_over.new.desk) c.hand_over.ensures.said) e)
-
-pub returns-in-Ok-text-clause-front : goal.returns-in-Ok-text-clause-front
-returns-in-Ok-text-clause-front g c =
-    λ e. inl (front_said (g.D.Desk.sight c.args.desk.now).names _ (Rose (g.D.Desk.faults_in c.args.desk.now) (g.D.Desk.faults_in c.hand_over.new.desk)) c.in-Say.reply
-    (g.D.Desk.sight c.args.desk.now) (g.D.Desk.sight c.task_of.new.desk) (g.D.Desk.sight c.hand_over.new.desk) c.hand_over.result c.as_slice.result.now
-    (g.D.Desk.faults_out c.task_of.new.desk) (g.D.Desk.faults_out c.hand_over.new.desk) c.task_of.ensures.rest (reply_due (g.D.Desk.sight c.args.desk.now).names _ c.in-Ok.task c.in-Say.reply c.in-Say.is c.in-Ok.ensures.due) (c.as_slice.ensures.value ∙ c.in-Ok-text.ensures) c.hand_over.ensures.said e)
-
-pub returns-in-Ok-text-clause-left : goal.returns-in-Ok-text-clause-left
-returns-in-Ok-text-clause-left g c =
-    λ e solve. absurd (not_seven c.hand_over.result (handed_small c.in-Say.reply c.as_slice.result.now (file_of c.in-Say.reply) (g.D.Desk.sight c.task_of.new.desk) (g.D.Desk.sight c.hand_over.new.desk) c.hand_over.result (g.D.Desk.faults_out c.task_of.new.desk) (g.D.Desk.faults_out c.hand_over.new.desk) c.hand_over.ensures.said) e)
-
-pub returns-in-Ok-text-clause-rest : goal.returns-in-Ok-text-clause-rest
-returns-in-Ok-text-clause-rest g c =
-    rest_said (g.D.Desk.sight c.args.desk.now) (g.D.Desk.sight c.task_of.new.desk) (g.D.Desk.sight c.hand_over.new.desk) c.task_of.ensures.rest c.hand_over.ensures.rest
-
-pub returns-in-Ok-text-clause-unread_log : goal.returns-in-Ok-text-clause-unread_log
-returns-in-Ok-text-clause-unread_log g c =
-    refused_said c.in-Say.reply (g.D.Desk.sight c.args.desk.now) (g.D.Desk.sight c.task_of.new.desk) (g.D.Desk.sight c.hand_over.new.desk) c.hand_over.result _ c.as_slice.result.now (g.D.Desk.faults_out c.task_of.new.desk) (g.D.Desk.faults_out c.hand_over.new.desk)
-    c.hand_over.ensures.rest (reply_unread (g.D.Desk.sight c.args.desk.now) (g.D.Desk.sight c.task_of.new.desk) c.in-Ok.task c.in-Say.reply c.in-Say.is c.in-Ok.ensures.unread) c.hand_over.ensures.said
-
-pub returns-in-Ok-text-clause-write_fault : goal.returns-in-Ok-text-clause-write_fault
-returns-in-Ok-text-clause-write_fault g c =
-    rose_said c.in-Say.reply (g.D.Desk.sight c.task_of.new.desk) (g.D.Desk.sight c.hand_over.new.desk) c.hand_over.result _ c.as_slice.result.now (g.D.Desk.faults_out c.args.desk.now) (g.D.Desk.faults_out c.task_of.new.desk) (g.D.Desk.faults_out c.hand_over.new.desk) c.task_of.ensures.other c.hand_over.ensures.said
-
-pub returns-in-Ok-text-clause-nothing : goal.returns-in-Ok-text-clause-nothing
-returns-in-Ok-text-clause-nothing g c =
-    λ e. absurd (not_seven c.hand_over.result (handed_small c.in-Say.reply c.as_slice.result.now (file_of c.in-Say.reply) (g.D.Desk.sight c.task_of.new.desk) (g.D.Desk.sight c.hand_over.new.desk) c.hand_over.result (g.D.Desk.faults_out c.task_of.new.desk) (g.D.Desk.faults_out c.hand_over.new.desk) c.hand_over.ensures.said) e)
-
-pub returns-in-Ok-text-clause-known : goal.returns-in-Ok-text-clause-known
-returns-in-Ok-text-clause-known g c =
-    said_known c.hand_over.result (handed_small c.in-Say.reply c.as_slice.result.now (file_of c.in-Say.reply) (g.D.Desk.sight c.task_of.new.desk) (g.D.Desk.sight c.hand_over.new.desk) c.hand_over.result (g.D.Desk.faults_out c.task_of.new.desk) (g.D.Desk.faults_out c.hand_over.new.desk) c.hand_over.ensures.said)
-
--- ---- a search
-
-pub returns-in-Ok-clause-solved : goal.returns-in-Ok-clause-solved
-returns-in-Ok-clause-solved g c =
-    solved_search (g.D.Desk.sight c.args.desk.now).names _ c.in-Solve.found (g.D.Desk.sight c.args.desk.now) (g.D.Desk.sight c.task_of.new.desk) (g.D.Desk.sight c.search.new.desk) c.search.result (g.D.Desk.faults_out c.task_of.new.desk) (g.D.Desk.faults_out c.search.new.desk) c.task_of.ensures.rest c.search.ensures.rest
-    (search_due (g.D.Desk.sight c.args.desk.now).names _ c.in-Ok.task c.in-Solve.found c.in-Solve.is c.in-Ok.ensures.due) (search_good (ReadsToEnd _ (g.D.Desk.sight c.task_of.new.desk)) c.in-Ok.task c.in-Solve.found c.in-Solve.is c.in-Ok.ensures.ended) c.search.ensures.searched
-
-pub returns-in-Ok-clause-unfiled : goal.returns-in-Ok-clause-unfiled
-returns-in-Ok-clause-unfiled g c =
-    λ done fault other. absurd (unopened _ c.search.result (search_ends c.in-Solve.found c.search.result (g.D.Desk.sight c.task_of.new.desk) (g.D.Desk.sight c.search.new.desk) (g.D.Desk.faults_out c.task_of.new.desk) (g.D.Desk.faults_out c.search.new.desk) c.search.ensures.searched) (searched_words (g.D.Desk.sight c.args.desk.now).names _ c.in-Solve.found (search_due (g.D.Desk.sight c.args.desk.now).names _ c.in-Ok.task c.in-Solve.found c.in-Solve.is c.in-Ok.ensures.due)) done fault other)
-
-pub returns-in-Ok-clause-front : goal.returns-in-Ok-clause-front
-returns-in-Ok-clause-front g c =
-    λ e. inr (front_search (g.D.Desk.sight c.args.desk.now).names _ c.in-Solve.found (g.D.Desk.sight c.args.desk.now) (g.D.Desk.sight c.task_of.new.desk) (g.D.Desk.sight c.search.new.desk) c.search.result (g.D.Desk.faults_out c.task_of.new.desk) (g.D.Desk.faults_out c.search.new.desk) c.task_of.ensures.rest (search_due (g.D.Desk.sight c.args.desk.now).names _ c.in-Ok.task c.in-Solve.found c.in-Solve.is c.in-Ok.ensures.due) c.search.ensures.searched e)
-
-pub returns-in-Ok-clause-left : goal.returns-in-Ok-clause-left
-returns-in-Ok-clause-left g c =
-    λ e solve. inr (left_search (g.D.Desk.sight c.args.desk.now).names _ c.in-Solve.found (g.D.Desk.sight c.args.desk.now) (g.D.Desk.sight c.task_of.new.desk) (g.D.Desk.sight c.search.new.desk) c.search.result (g.D.Desk.faults_out c.task_of.new.desk) (g.D.Desk.faults_out c.search.new.desk) c.task_of.ensures.rest (search_due (g.D.Desk.sight c.args.desk.now).names _ c.in-Ok.task c.in-Solve.found c.in-Solve.is c.in-Ok.ensures.due) c.search.ensures.searched e)
-
-pub returns-in-Ok-clause-out_seen : goal.returns-in-Ok-clause-out_seen
-returns-in-Ok-clause-out_seen g c =
-    λ more. seen_search c.in-Solve.found (g.D.Desk.sight c.task_of.new.desk) (g.D.Desk.sight c.search.new.desk) _ c.search.result (g.D.Desk.faults_out c.args.desk.now) (g.D.Desk.faults_out c.task_of.new.desk) (g.D.Desk.faults_out c.search.new.desk) c.task_of.ensures.other
-    (searched_words (g.D.Desk.sight c.args.desk.now).names _ c.in-Solve.found (search_due (g.D.Desk.sight c.args.desk.now).names _ c.in-Ok.task c.in-Solve.found c.in-Solve.is c.in-Ok.ensures.due)) c.search.ensures.searched more
-
-pub returns-in-Ok-clause-read_fault : goal.returns-in-Ok-clause-read_fault
-returns-in-Ok-clause-read_fault g c =
-    λ e. absurd (search_not_five c.search.result (search_ends c.in-Solve.found c.search.result (g.D.Desk.sight c.task_of.new.desk) (g.D.Desk.sight c.search.new.desk) (g.D.Desk.faults_out c.task_of.new.desk) (g.D.Desk.faults_out c.search.new.desk) c.search.ensures.searched) e)
-
-pub returns-in-Ok-clause-patient : goal.returns-in-Ok-clause-patient
-returns-in-Ok-clause-patient g c =
-    λ e. absurd (search_not_five c.search.result (search_ends c.in-Solve.found c.search.result (g.D.Desk.sight c.task_of.new.desk) (g.D.Desk.sight c.search.new.desk) (g.D.Desk.faults_out c.task_of.new.desk) (g.D.Desk.faults_out c.search.new.desk) c.search.ensures.searched) e)
-
--- ---- a read fault
-
-pub returns-in-Err-ReadFault-clause-patient : goal.returns-in-Err-ReadFault-clause-patient
-returns-in-Err-ReadFault-clause-patient g c = λ e.
-    said_patient (g.D.Desk.sight c.args.desk.now).names _ (g.D.Desk.sight c.args.desk.now) (g.D.Desk.sight c.task_of.new.desk) (g.D.Desk.sight c.say.new.desk) c.say.ensures.rest (c.in-Err-ReadFault.ensures.patient (fault_is c.in-Err-ReadFault.field-0 c.in-Err-ReadFault.field-0-is))
-
-pub returns-in-Err-ReadFault-clause-front : goal.returns-in-Err-ReadFault-clause-front
-returns-in-Err-ReadFault-clause-front g c = λ e.
-    inl (front_fault (g.D.Desk.sight c.args.desk.now).names _ (Rose (g.D.Desk.faults_in c.args.desk.now) (g.D.Desk.faults_in c.say.new.desk))
-    (g.D.Desk.sight c.args.desk.now) (g.D.Desk.sight c.task_of.new.desk) (g.D.Desk.sight c.say.new.desk) c.say.result _ (g.D.Desk.faults_out c.task_of.new.desk) (g.D.Desk.faults_out c.say.new.desk)
-    c.task_of.ensures.rest c.say.ensures.rest
-    (subst (λ (n : ℕ). Rose (g.D.Desk.faults_in c.args.desk.now) n) (sym c.say.ensures.other) (fault_rose _ _ c.in-Err-ReadFault.field-0 c.in-Err-ReadFault.ensures.cause c.in-Err-ReadFault.field-0-is)) refl c.say.ensures.said e)
+pub returns-clause-fronts : goal.returns-clause-fronts
+returns-clause-fronts g c = record { written = c.perform.ensures.front; left = c.perform.ensures.left }
