@@ -1,5 +1,5 @@
 -- What a model is told that is proved.
-use Rattle.std.specs.Prelude.{◌≡◌, ◌⊎◌, ◌++◌, ◌==◌, ℕ, ◌≤◌, Bool, true, false, if◌then◌else◌, Option, Some, None, List, length}
+use Rattle.std.specs.Prelude.{◌≡◌, ◌⊎◌, ◌++◌, ◌==◌, ℕ, ◌≤◌, Bool, true, false, if◌then◌else◌, Option, Some, None, List}
 use Rattle.std.proofs.Common.{refl, sym, ◌∙◌, ap, subst, inl, inr, arith}
 use Rattle.dp_desk.specs.Channel.{Channel, Files, Grows}
 use Rattle.dp_desk.specs.Sight.{Sight}
@@ -8,7 +8,6 @@ use Rattle.dp_domain.specs.declared.verdict.Verdict.{Verdict}
 use Rattle.dp_judge.specs.Logs.{judged_log}
 use Rattle.dp_judge.specs.declared.answer.LogAnswer.{LogAnswer}
 use Rattle.dp_judge.specs.declared.answer.LogAnswer.TheVariants as judged
-use Rattle.dp_learning.specs.Learning.{AreLearned}
 use Rattle.dp_learning.specs.Scaffolds.{scaffold_of}
 use Rattle.dp_lower.specs.Problem.{problem_of}
 use Rattle.dp_parts.specs.Problems.{Csp, IsProblem, posed}
@@ -18,7 +17,6 @@ use Rattle.dp_scaffold.specs.Scaffolds.{Learned}
 use Rattle.dp_scaffold.specs.Texts.{scaffold_text}
 use Rattle.dp_scaffold.specs.declared.answer.ScaffoldAnswer.{ScaffoldAnswer}
 use Rattle.dp_scaffold.specs.declared.answer.ScaffoldAnswer.TheVariants as gathered
-use Rattle.dp_solver.specs.Outcomes.{IsOutcome}
 use Rattle.dp_solver.specs.declared.outcome.Outcome.{Outcome}
 use Rattle.dp_solver.specs.declared.outcome.Outcome.TheVariants.{Solution, Unsat, Optimal, Unknown as UnknownOutcome}
 use Rattle.dp_writer.specs.Steps.{text_of as log_text}
@@ -27,6 +25,7 @@ use Rattle.fz_prove.specs.Proofs.{IsEnd, IsEnding, IsProven, Proves, log_end}
 use Rattle.fz_prove.specs.declared.proof.Proof.{Proof}
 use Rattle.fz_prove.specs.declared.proof.Proof.TheVariants.{Unclaimed, Accepted, ScaffoldUnread, ScaffoldRefused, NotFollowing, LogUnread, LogRefused}
 use Rattle.fz_solve.specs.Printed.{outcome_status, outcome_text}
+use Rattle.fz_solve.specs.Solved.{Finds}
 use Rattle.dp_command.proofs.Checks.{given_of}
 use Rattle.dp_command.proofs.Requests.{prove_is_no_check, prove_is_no_process, prove_is_no_show}
 use Rattle.dp_command.proofs.Rights.{log_goal, log_right}
@@ -102,7 +101,7 @@ aimed_by m p outcome nogoods claim (LogRefused refusal line) problem h = tt
 
 -- what is accepted is of the goal
 pub aimed_of : (m : Plan) (p : Csp) (most : ℕ) (end : Proof) → IsProblem p → Proves m p most end → IsAimed p end
-aimed_of m p most end problem h = aimed_by m p h.outcome h.nogoods h.claim end problem h.ending
+aimed_of m p most end problem h = aimed_by m p h.outcome h.found.nogoods h.found.claim end problem h.ending
 
 no_claim : (m : Plan) (text : List ℕ) (b : Bool) → IsTrueProving m (if b then proving.Solved text else proving.Unknown text)
 no_claim m text true = tt
@@ -122,7 +121,7 @@ true_by m p outcome nogoods claim (LogRefused refusal line) problem is h = tt
 -- a model that is proved ends so, and what is accepted is true of it
 pub proving_is : (m : Plan) (p : Csp) (most : ℕ) (end : Proof) (told : Proving) → IsProblem p → IsProblemOf m p → Proves m p most end → told ≡ proving_of p end → IsProving m p most told
 proving_is m p most end told problem is h e =
-    record { end = end; proves = h; told = e; holds = subst (λ (t : Proving). IsTrueProving m t) (sym e) (true_by m p h.outcome h.nogoods h.claim end problem is h.ending) }
+    record { end = end; proves = h; told = e; holds = subst (λ (t : Proving). IsTrueProving m t) (sym e) (true_by m p h.outcome h.found.nogoods h.found.claim end problem is h.ending) }
 
 -- the reply for a model that is proved belongs to the words
 pub proving_at : (names : Option Files) (model : List ℕ) (most : ℕ) (m : Plan) (p : Csp) (told : Proving) (what : Found) → what ≡ Problem m p → IsFound names model what → IsProving m p most told →
@@ -180,10 +179,10 @@ told_by m p o nogoods (Some claim) (LogRefused refusal line) h holds good = absu
 
 -- an outcome is told with its status
 told_of : (m : Plan) (p : Csp) (most : ℕ) (told : Proving) (h : IsProving m p most told) → (proving_status told ≡ 0) ⊎ (proving_status told ≡ 4) →
-    IsTold m p h.proves.outcome h.proves.nogoods h.proves.claim (proving_text told) (proving_status told)
+    IsTold m p h.proves.outcome h.proves.found.nogoods h.proves.found.claim (proving_text told) (proving_status told)
 told_of m p most told h good =
-    subst (λ (t : Proving). IsTold m p h.proves.outcome h.proves.nogoods h.proves.claim (proving_text t) (proving_status t)) (sym h.told)
-    (told_by m p h.proves.outcome h.proves.nogoods h.proves.claim h.end h.proves.ending (subst (λ (t : Proving). IsTrueProving m t) h.told h.holds)
+    subst (λ (t : Proving). IsTold m p h.proves.outcome h.proves.found.nogoods h.proves.found.claim (proving_text t) (proving_status t)) (sym h.told)
+    (told_by m p h.proves.outcome h.proves.found.nogoods h.proves.found.claim h.end h.proves.ending (subst (λ (t : Proving). IsTrueProving m t) h.told h.holds)
     (subst (λ (t : Proving). (proving_status t ≡ 0) ⊎ (proving_status t ≡ 4)) h.told good))
 
 -- ---- the reply
@@ -212,11 +211,7 @@ says_by names words (Proved told) was now due prove good text = record {
   m = due.m;
   given = due.given;
   outcome = due.proves.proves.outcome;
-  nogoods = due.proves.proves.nogoods;
-  claim = due.proves.proves.claim;
-  learned = due.proves.proves.learned;
-  few = due.proves.proves.few;
-  outcome_is = due.proves.proves.outcome_is;
+  found = due.proves.proves.found;
   truth = due.proves.proves.truth;
   text = proving_text told;
   told = told_of due.m (problem_of due.m) due.most told due.proves good;
@@ -252,22 +247,20 @@ accepted_zero p text v end h e = zero_one 0 refl (subst (λ (q : Proof). proving
     zero_one : (n : ℕ) → n ≡ 0 → n ≡ 1 → ⊥
     zero_one n e f = omega (arith, e, f)
 
-limit_by : (names : Option Files) (words : List (List ℕ)) (model : List ℕ) (most : ℕ) (m : Plan) (o : Outcome) (nogoods : List (List Atomic)) (claim : Option Verdict) (end : Proof) →
-    Spells (Prove model most) words → IsGiven names model m → AreLearned (posed (problem_of m)) nogoods → length nogoods ≤ most → IsOutcome (problem_of m) most nogoods claim o →
-    IsEnding m (problem_of m) o nogoods claim end → IsProven m (problem_of m) o nogoods claim end → proving_status (proving_of (problem_of m) end) ≡ 1 → PassesLimit names words
-limit_by names words model most m o nogoods None end asked given learned few is ending proven e = absurd (not_one m (problem_of m) o end ending e)
-limit_by names words model most m o nogoods (Some claim) end asked given learned few is ending proven e = record {
+limit_by : (names : Option Files) (words : List (List ℕ)) (model : List ℕ) (most : ℕ) (m : Plan) (o : Outcome) (found : Finds (problem_of m) most o) (claim : Option Verdict) (end : Proof) →
+    Spells (Prove model most) words → IsGiven names model m → found.claim ≡ claim → IsEnding m (problem_of m) o found.nogoods claim end → IsProven m (problem_of m) o found.nogoods claim end →
+    proving_status (proving_of (problem_of m) end) ≡ 1 → PassesLimit names words
+limit_by names words model most m o found None end asked given is ending proven e = absurd (not_one m (problem_of m) o end ending e)
+limit_by names words model most m o found (Some claim) end asked given is ending proven e = record {
   model = model;
   most = most;
   asked = asked;
   m = m;
   given = given;
   outcome = o;
-  nogoods = nogoods;
+  found = found;
   claim = claim;
-  learned = learned;
-  few = few;
-  outcome_is = is;
+  claims = is;
   passes = λ limits short. accepted_zero (problem_of m) (outcome_text m o) claim end e (proven limits short);
 }
 
@@ -281,7 +274,7 @@ passes_limit names words (ShownLog shown) due prove e = absurd (prove_is_no_show
 passes_limit names words (Processed o) due prove e = absurd (prove_is_no_process words due.model due.scaffold due.out prove due.asked)
 passes_limit names words (Proved told) due prove e =
     let h = due.proves.proves in
-    limit_by names words due.model due.most due.m h.outcome h.nogoods h.claim due.proves.end due.asked due.given h.learned h.few h.outcome_is h.ending h.proven
+    limit_by names words due.model due.most due.m h.outcome h.found h.found.claim due.proves.end due.asked due.given refl h.ending h.proven
     (subst (λ (t : Proving). proving_status t ≡ 1) due.proves.told e)
 
 -- a proof is refused only where a limit is passed

@@ -1,5 +1,5 @@
 -- What a reply leaves of a desk where it is handed over.
-use Rattle.std.specs.Prelude.{◌≡◌, ◌≢◌, ℕ, ◌≤◌, IfSome, Option, Some, None, List, [], ◌++◌, ◌⊎◌}
+use Rattle.std.specs.Prelude.{◌≡◌, ◌≢◌, ℕ, ◌≤◌, IfSome, Option, Some, None, List, [], ◌⊎◌}
 use Rattle.std.proofs.Common.{refl, sym, ◌∙◌, ap, subst, inl, inr, arith, lit≤}
 use Rattle.dp_desk.specs.Channel.{Channel, Shut, Hidden, Shown, Files, Grows, GrowsByPart, IsOpen, Starts}
 use Rattle.dp_desk.specs.Causes.{Rose}
@@ -9,7 +9,7 @@ use Rattle.dp_desk.proofs.Channels.{grows_by_none}
 use Rattle.dp_show.specs.declared.shown.Refusal.{Refusal as ShowRefusal}
 use Rattle.dp_command.proofs.Processes.{proof_of}
 use Rattle.dp_command.proofs.Requests.{check_proves_not, process_is_no_check, show_is_no_check, solve_is_no_check, solve_is_no_process, solve_is_no_show, solve_proves_not}
-use Rattle.dp_command.specs.Due.{AreAtEnd, ChangesInputs, ChangesOutputs, Holds, HoldsFront, IsCut, IsFiled, Leaves, LeavesUnasked, LeavesUnread, ReadsToEnd, Said, SaidPart, Writes, WritesPart}
+use Rattle.dp_command.specs.Due.{AreAtEnd, ChangesInputs, ChangesOutputs, IsCut, IsFiled, Leaves, LeavesUnasked, LeavesUnread, ReadsToEnd, Said, SaidPart, Writes, WritesPart}
 use Rattle.dp_command.specs.Proved.{FilesProof, SaysTruth}
 use Rattle.dp_command.specs.Replies.{Replies}
 use Rattle.dp_command.specs.Solving.{IsSolved}
@@ -23,29 +23,6 @@ use Rattle.dp_command.specs.declared.reply.Reply.{Reply}
 use Rattle.dp_command.specs.declared.reply.Reply.TheVariants.{NoCommand, ModelRefused, Accepted, Unread, Refused, Shown as ShownLog, Processed, Proved}
 
 -- ---- a file
-
--- what is opened and then grows by a text holds it
-pub holds_of : (started now : Channel) (text : List ℕ) → Starts started → Grows started now text → Holds now text
-holds_of Shut now text s g = absurd s
-holds_of Hidden Shut text s g = absurd g
-holds_of Hidden Hidden text s g = tt
-holds_of Hidden (Shown bytes) text s g = absurd g
-holds_of (Shown was) Shut text s g = absurd g
-holds_of (Shown was) Hidden text s g = tt
-holds_of (Shown was) (Shown bytes) text s g = g ∙ ap (λ w. w ++ text) s
-
-front_by : (started now : Channel) (text front rest : List ℕ) → Starts started → text ≡ front ++ rest → Grows started now front → HoldsFront now text
-front_by Shut now text front rest s e g = absurd s
-front_by Hidden Shut text front rest s e g = absurd g
-front_by Hidden Hidden text front rest s e g = tt
-front_by Hidden (Shown bytes) text front rest s e g = absurd g
-front_by (Shown was) Shut text front rest s e g = absurd g
-front_by (Shown was) Hidden text front rest s e g = tt
-front_by (Shown was) (Shown bytes) text front rest s e g = (rest, e ∙ ap (λ b. b ++ rest) (sym (g ∙ ap (λ w. w ++ front) s)))
-
--- what is opened and then grows by a part of a text holds a front of it
-pub front_of : (started now : Channel) (text : List ℕ) → Starts started → GrowsByPart started now text → HoldsFront now text
-front_of started now text s g = front_by started now text g.front g.rest s g.whole g.grows
 
 -- what starts is open
 pub starts_open : (c : Channel) → Starts c → IsOpen c

@@ -83,11 +83,7 @@ model_ended (Prove model most) words now e h solve = h
 moved_solved : (m : Plan) (p : Csp) (most r : ℕ) (was middle now : Sight) → middle.answer ≡ was.answer → Solved m p most r middle now → Solved m p most r was now
 moved_solved m p most r was middle now same s = record {
   outcome = s.outcome;
-  nogoods = s.nogoods;
-  claim = s.claim;
-  learned = s.learned;
-  few = s.few;
-  outcome_is = s.outcome_is;
+  found = s.found;
   file = s.file;
   told = subst (λ (c : Channel). Grows c now.answer (outcome_text m s.outcome)) same s.told;
   stands = s.stands;
@@ -97,11 +93,7 @@ moved_solved m p most r was middle now same s = record {
 moved_part : (m : Plan) (p : Csp) (most : ℕ) (was middle now : Sight) → middle.answer ≡ was.answer → SolvedPart m p most middle now → SolvedPart m p most was now
 moved_part m p most was middle now same s = record {
   outcome = s.outcome;
-  nogoods = s.nogoods;
-  claim = s.claim;
-  learned = s.learned;
-  few = s.few;
-  outcome_is = s.outcome_is;
+  found = s.found;
   file = s.file;
   told = subst (λ (c : Channel). GrowsByPart c now.answer (outcome_text m s.outcome)) same s.told;
 }

@@ -1,7 +1,8 @@
 -- What the answer and the file have to hold, and what a run leaves of a desk.
-use Rattle.std.specs.Prelude.{◌≡◌, ◌⊎◌, ◌++◌, ℕ, List, IfSome, Option, Some, None}
-use Rattle.dp_desk.specs.Channel.{Channel, Files, Grows, GrowsByPart, IsAtEnd, Shut, Hidden, Shown}
+use Rattle.std.specs.Prelude.{◌≡◌, ◌⊎◌, ℕ, List, IfSome, Option, Some, None}
+use Rattle.dp_desk.specs.Channel.{Channel, Files, Grows, GrowsByPart, IsAtEnd}
 use Rattle.dp_desk.specs.Sight.{Sight}
+use Rattle.fz_solve.specs.Solved.{Holds, HoldsFront}
 use Rattle.dp_command.specs.Replies.{Replies}
 use Rattle.dp_command.specs.Texts.{file_of, text_of, status_of, read_fault}
 use Rattle.dp_command.specs.Words.{Request, Check, Show, Process, Solve, Prove, IsAsked, Spells}
@@ -9,18 +10,6 @@ use Rattle.dp_command.specs.declared.reply.Reply.{Reply}
 use Rattle.dp_command.specs.declared.reply.Reply.TheVariants.{ModelRefused}
 
 -- ---- a file
-
--- the output is open, and holds this where it is told
-abbrev pub Holds : Channel → List ℕ → Type 0
-Holds Shut text = ⊥
-Holds Hidden text = Unit {0}
-Holds (Shown bytes) text = bytes ≡ text
-
--- the output is open, and holds a front of this where it is told
-abbrev pub HoldsFront : Channel → List ℕ → Type 0
-HoldsFront Shut text = ⊥
-HoldsFront Hidden text = Unit {0}
-HoldsFront (Shown bytes) text = (rest : List ℕ) × (text ≡ bytes ++ rest)
 
 -- where there is a text for it, the output holds that; else it is as it was
 abbrev pub IsFiled : Option (List ℕ) → Channel → Channel → Type 0

@@ -14,7 +14,7 @@ use Rattle.dp_scaffold.specs.Scaffolds.{Learned}
 use Rattle.dp_scaffold.specs.Texts.{scaffold_text}
 use Rattle.dp_scaffold.specs.declared.answer.ScaffoldAnswer.TheVariants.{Given}
 use Rattle.dp_writer.specs.Steps as steps
-use Rattle.dp_command.specs.Due.{Holds}
+use Rattle.fz_solve.specs.Solved.{Holds}
 use Rattle.dp_command.specs.Inputs.{IsRead}
 use Rattle.dp_command.specs.Replies.{IsGiven, most_of_log}
 use Rattle.dp_command.specs.Texts.{text_of}

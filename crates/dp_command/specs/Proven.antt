@@ -1,11 +1,10 @@
 -- What is said of a model that is proved, and where that is refused.
-use Rattle.std.specs.Prelude.{◌≡◌, ℕ, ◌≤◌, ◌++◌, Option, Some, None, List, length}
+use Rattle.std.specs.Prelude.{◌≡◌, ℕ, ◌++◌, Option, Some, None, List}
 use Rattle.dp_desk.specs.Channel.{Channel, Files, Grows}
 use Rattle.dp_domain.specs.Atoms.{Atomic}
 use Rattle.dp_domain.specs.declared.verdict.Verdict.{Verdict}
 use Rattle.dp_judge.specs.Logs.{judged_log}
 use Rattle.dp_judge.specs.declared.answer.LogAnswer.TheVariants.{Accepted}
-use Rattle.dp_learning.specs.Learning.{AreLearned}
 use Rattle.dp_learning.specs.Scaffolds.{scaffold_of}
 use Rattle.dp_lower.specs.Problem.{problem_of}
 use Rattle.dp_parts.specs.Problems.{Csp, posed}
@@ -16,12 +15,11 @@ use Rattle.dp_reread.specs.Rereading.{IsInLimits}
 use Rattle.dp_scaffold.specs.Scaffolds.{Learned}
 use Rattle.dp_scaffold.specs.Texts.{scaffold_text}
 use Rattle.dp_scaffold.specs.declared.answer.ScaffoldAnswer.TheVariants.{Given}
-use Rattle.dp_solver.specs.Outcomes.{IsOutcome}
 use Rattle.dp_solver.specs.declared.outcome.Outcome.{Outcome}
 use Rattle.dp_writer.specs.Steps.{lines, text_of}
 use Rattle.fz_model.specs.Models.{Plan}
 use Rattle.fz_solve.specs.Printed.{outcome_status, outcome_text}
-use Rattle.fz_solve.specs.Solved.{IsTruth}
+use Rattle.fz_solve.specs.Solved.{Finds, IsTruth}
 use Rattle.dp_command.specs.Named.{claim_of}
 use Rattle.dp_command.specs.Replies.{IsGiven}
 use Rattle.dp_command.specs.Texts.{accepted_line}
@@ -45,8 +43,8 @@ abbrev pub IsTold : Plan → Csp → Outcome → List (List Atomic) → Option V
 IsTold m p outcome nogoods None text status = (text ≡ outcome_text m outcome) × (status ≡ outcome_status outcome)
 IsTold m p outcome nogoods (Some claim) text status = IsChecked m p outcome (scaffold_of p nogoods (Some claim)) text status
 
--- The words ask to prove a model, which is read. A search of its problem has an outcome: at most so many nogoods, each learned
--- behind those before it, and what is claimed. What it says is true of the model, and it was told.
+-- The words ask to prove a model, which is read. A search of its problem found an outcome. What it says is true of the model, and
+-- it was told.
 pub record SaysProof (names : Option Files) (words : List (List ℕ)) (status : ℕ) (was now : Channel) : Type 0 where
   pub model : List ℕ
   pub most : ℕ
@@ -54,14 +52,10 @@ pub record SaysProof (names : Option Files) (words : List (List ℕ)) (status : 
   pub m : Plan
   pub given : IsGiven names model m
   pub outcome : Outcome
-  pub nogoods : List (List Atomic)
-  pub claim : Option Verdict
-  pub learned : AreLearned (posed (problem_of m)) nogoods
-  pub few : length nogoods ≤ most
-  pub outcome_is : IsOutcome (problem_of m) most nogoods claim outcome
+  pub found : Finds (problem_of m) most outcome
   pub truth : IsTruth m outcome
   pub text : List ℕ
-  pub told : IsTold m (problem_of m) outcome nogoods claim text status
+  pub told : IsTold m (problem_of m) outcome found.nogoods found.claim text status
   pub written : Grows was now text
 
 -- the words ask to prove a model, which is read, and the scaffold of an outcome that claims something, or the log that is made
@@ -73,12 +67,10 @@ pub record PassesLimit (names : Option Files) (words : List (List ℕ)) : Type 0
   pub m : Plan
   pub given : IsGiven names model m
   pub outcome : Outcome
-  pub nogoods : List (List Atomic)
+  pub found : Finds (problem_of m) most outcome
   pub claim : Verdict
-  pub learned : AreLearned (posed (problem_of m)) nogoods
-  pub few : length nogoods ≤ most
-  pub outcome_is : IsOutcome (problem_of m) most nogoods (Some claim) outcome
+  pub claims : found.claim ≡ Some claim
   pub passes :
-      IsInLimits (problem_of m) nogoods claim
-      → ((s : Learned) → scaffold_text (posed (problem_of m)) (scaffold_of (problem_of m) nogoods (Some claim)) ≡ Given s
+      IsInLimits (problem_of m) found.nogoods claim
+      → ((s : Learned) → scaffold_text (posed (problem_of m)) (scaffold_of (problem_of m) found.nogoods (Some claim)) ≡ Given s
       → AreShort (lines (log_of (problem_of m) s)) (text_of (log_of (problem_of m) s))) → ⊥

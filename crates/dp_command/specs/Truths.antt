@@ -7,12 +7,9 @@ use Rattle.fz_model.specs.Models.{Plan}
 use Rattle.fz_model.specs.declared.model.ModelGoal.{ModelGoal}
 use Rattle.fz_model.specs.declared.model.ModelGoal.TheVariants.{Satisfy, Minimize, Maximize}
 use Rattle.fz_sat.specs.Satisfies.{Satisfies, objective_of}
+use Rattle.fz_solve.specs.Solved.{IsUnsatisfiable}
 use Rattle.dp_command.specs.declared.reply.Claim.{Claim}
 use Rattle.dp_command.specs.declared.reply.Claim.TheVariants.{Unsat, Bound}
-
--- no assignment satisfies the model
-abbrev pub IsUnsatisfiable : Plan → Type 0
-IsUnsatisfiable m = (s : ℕ → ℤ) → Satisfies m s → ⊥
 
 -- a bound from below is wanted where the least is, and one from above where the greatest is
 abbrev pub IsSideOf : ModelGoal → Op → Type 0

@@ -4,7 +4,8 @@ ghost use Rattle.std.specs.Prelude.{◌≡◌, ◌⊎◌, ◌≤◌, ℕ, OnOk, 
 ghost use Rattle.dp_desk.specs.Channel.{Grows, GrowsByPart};
 ghost use Rattle.dp_desk.specs.Causes.{HasCause, Rose};
 ghost use Rattle.dp_desk.specs.Sight.{with_output};
-ghost use Rattle.dp_command.specs.Due.{HoldsFront, Holds, IsCut, IsFiled, Writes, WritesPart};
+ghost use Rattle.fz_solve.specs.Solved.{HoldsFront, Holds};
+ghost use Rattle.dp_command.specs.Due.{IsCut, IsFiled, Writes, WritesPart};
 ghost use Rattle.dp_command.specs.Texts.{file_of, status_of};
 
 use crate::WRITE_FAULT;

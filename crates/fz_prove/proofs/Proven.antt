@@ -2,7 +2,7 @@
 use Rattle.std.proofs.Common.{◌≡◌, ℕ, ◌<◌, true, List, length, Option, Some, None, ℤ, ◌↔◌, sym, ◌∙◌, ap, subst, arith}
 use Rattle.dp_base.specs.Lists.{Each}
 use Rattle.dp_checker.specs.Judged.{is_bound}
-use Rattle.dp_desk.specs.Channel.{Channel, Shown}
+use Rattle.dp_desk.specs.Channel.{Channel, Shown, Starts}
 use Rattle.dp_domain.specs.Atoms.{Atomic}
 use Rattle.dp_domain.specs.Turns.{at_least, at_most}
 use Rattle.dp_domain.specs.declared.verdict.Verdict.{Verdict}
@@ -27,7 +27,7 @@ use Rattle.dp_scaffold.specs.Scaffolds.{Learned}
 use Rattle.dp_scaffold.specs.Texts.{scaffold_text}
 use Rattle.dp_scaffold.specs.declared.answer.ScaffoldAnswer.{ScaffoldAnswer}
 use Rattle.dp_scaffold.specs.declared.answer.ScaffoldAnswer.TheVariants.{Given}
-use Rattle.dp_solver.specs.Outcomes.{IsOutcome}
+use Rattle.dp_solver.specs.Outcomes.{IsOutcome, Solves}
 use Rattle.dp_solver.specs.declared.outcome.Outcome.{Outcome}
 use Rattle.dp_solver.specs.declared.outcome.Outcome.TheVariants.{Solution, Unsat, Optimal, Unknown}
 use Rattle.dp_writer.specs.Steps.{lines, text_of}
@@ -39,7 +39,8 @@ use Rattle.fz_prove.specs.declared.proof.Proof.TheVariants.{Accepted}
 use Rattle.fz_prove.proofs.Followed.{each_follows}
 use Rattle.fz_sat.specs.Satisfies.{Satisfies}
 use Rattle.fz_solve.specs.Printed.{outcome_text}
-use Rattle.fz_solve.specs.Solved.{Holds}
+use Rattle.fz_solve.specs.Solved.{Finds, Holds}
+use Rattle.fz_solve.proofs.Files.{holds_of}
 use Rattle.fz_solve.proofs.Truths.{truth_of}
 
 -- ---- a claim is on the goal
@@ -112,21 +113,29 @@ module _ (m : Plan) (p : Csp) (most : ℕ) (nogoods : List (List Atomic)) (claim
         proven_claim (Optimal numbers bound) (claimed.Bound bound) o.claim (bound_of_goal p.goal (length p.initial) numbers bound problem.goal o.bound) o.follows h
     proven_of (Unknown best) o h = proven_none (Unknown best) o.claim
 
+-- ---- the search
+
+-- what a solver wrote to an output that was opened is what a search found
+pub searched_of : (p : Csp) (most : ℕ) (started now : Channel) (outcome : Outcome) → Starts started → Solves p most started now outcome → IsSearched p most now outcome
+searched_of p most started now outcome s h = record {
+  found = record { nogoods = h.nogoods; claim = h.claim; learned = h.learned; few = h.few; outcome_is = h.outcome };
+  once = h.once;
+  allowed = h.allowed;
+  written = holds_of started now (scaffold_of p h.nogoods h.claim) s h.written;
+}
+
 -- ---- the model
 
 -- what is told of a search of a model's problem proves the model
 pub proves_of : (m : Plan) (p : Csp) (most : ℕ) (now : Channel) (bytes : List ℕ) (outcome : Outcome) (proof : Proof) → IsModel m → IsProblem p → LeadBack p.names → p ≡ problem_of m
     → ((s : ℕ → ℤ) → Satisfies m s ↔ IsSolution s p) → IsSearched p most now outcome → now ≡ Shown bytes → IsTold m p bytes outcome proof → Proves m p most proof
 proves_of m p most now bytes outcome proof model problem back is same found shown h =
-    let written : bytes ≡ scaffold_of p found.nogoods found.claim = subst (λ (c : Channel). Holds c (scaffold_of p found.nogoods found.claim)) shown found.written in
+    let f : Finds p most outcome = found.found in
+    let written : bytes ≡ scaffold_of p f.nogoods f.claim = subst (λ (c : Channel). Holds c (scaffold_of p f.nogoods f.claim)) shown found.written in
     record {
       outcome = outcome;
-      nogoods = found.nogoods;
-      claim = found.claim;
-      learned = found.learned;
-      few = found.few;
-      outcome_is = found.outcome_is;
-      truth = truth_of m p most found.nogoods found.claim outcome model problem is same found.learned found.outcome_is;
-      ending = ending_of m p most found.nogoods found.claim bytes proof written outcome found.outcome_is h;
-      proven = proven_of m p most found.nogoods found.claim bytes proof written problem back found.learned found.once found.allowed outcome found.outcome_is h;
+      found = f;
+      truth = truth_of m p most f.nogoods f.claim outcome model problem is same f.learned f.outcome_is;
+      ending = ending_of m p most f.nogoods f.claim bytes proof written outcome f.outcome_is h;
+      proven = proven_of m p most f.nogoods f.claim bytes proof written problem back f.learned found.once found.allowed outcome f.outcome_is h;
     }

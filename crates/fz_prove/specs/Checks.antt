@@ -1,10 +1,7 @@
 -- What the steps of proving a model leave.
-use Rattle.std.specs.Prelude.{◌≡◌, ℕ, ◌≤◌, List, length, Option}
+use Rattle.std.specs.Prelude.{◌≡◌, ℕ, List}
 use Rattle.dp_base.specs.Lists.{Each}
 use Rattle.dp_desk.specs.Channel.{Channel}
-use Rattle.dp_domain.specs.Atoms.{Atomic}
-use Rattle.dp_domain.specs.declared.verdict.Verdict.{Verdict}
-use Rattle.dp_learning.specs.Learning.{AreLearned}
 use Rattle.dp_learning.specs.Scaffolds.{scaffold_of, steps_of}
 use Rattle.dp_lines.specs.Allowed.{IsAllowed}
 use Rattle.dp_parts.specs.Problems.{Csp, posed}
@@ -16,7 +13,6 @@ use Rattle.dp_scaffold.specs.Scaffolds.{Learned}
 use Rattle.dp_scaffold.specs.Texts.{scaffold_text}
 use Rattle.dp_scaffold.specs.declared.answer.ScaffoldAnswer.{ScaffoldAnswer}
 use Rattle.dp_scaffold.specs.declared.answer.ScaffoldAnswer.TheVariants as gathered
-use Rattle.dp_solver.specs.Outcomes.{IsOutcome}
 use Rattle.dp_solver.specs.declared.outcome.Outcome.{Outcome}
 use Rattle.dp_solver.specs.declared.outcome.Outcome.TheVariants.{Solution, Unsat, Optimal, Unknown}
 use Rattle.dp_writer.specs.Steps.{lines, text_of}
@@ -25,18 +21,14 @@ use Rattle.fz_prove.specs.Proofs.{IsEnd}
 use Rattle.fz_prove.specs.declared.proof.Proof.{Proof}
 use Rattle.fz_prove.specs.declared.proof.Proof.TheVariants.{Unclaimed, Accepted}
 use Rattle.fz_solve.specs.Printed.{outcome_status, outcome_text}
-use Rattle.fz_solve.specs.Solved.{Holds}
+use Rattle.fz_solve.specs.Solved.{Finds, Holds}
 
--- the output holds the whole scaffold of this outcome of the problem: what a solver wrote
+-- the output holds the whole scaffold of what a search found, in lines that a log may have, and no nogood has an atom twice
 pub record IsSearched (p : Csp) (most : ℕ) (now : Channel) (outcome : Outcome) : Type 0 where
-  pub nogoods : List (List Atomic)
-  pub claim : Option Verdict
-  pub learned : AreLearned (posed p) nogoods
-  pub once : Each IsOnce nogoods
-  pub few : length nogoods ≤ most
-  pub allowed : Each IsAllowed (lines (steps_of p nogoods claim))
-  pub outcome_is : IsOutcome p most nogoods claim outcome
-  pub written : Holds now (scaffold_of p nogoods claim)
+  pub found : Finds p most outcome
+  pub once : Each IsOnce found.nogoods
+  pub allowed : Each IsAllowed (lines (steps_of p found.nogoods found.claim))
+  pub written : Holds now (scaffold_of p found.nogoods found.claim)
 
 -- where each nogood that the scaffold rests on follows and its log passes no limit, the log is accepted with its claim
 abbrev pub IsPassedOf : Csp → List ℕ → Learned → Proof → Type 0

@@ -1,11 +1,10 @@
 -- What proving a model in memory ends with: it is solved, the scaffold is processed, and the log is checked.
-use Rattle.std.specs.Prelude.{◌≡◌, ℕ, ◌≤◌, List, length, Option, Some, None}
+use Rattle.std.specs.Prelude.{◌≡◌, ℕ, List, Option, Some, None}
 use Rattle.dp_domain.specs.Atoms.{Atomic}
 use Rattle.dp_domain.specs.declared.verdict.Verdict.{Verdict}
 use Rattle.dp_judge.specs.Logs.{judged_log}
 use Rattle.dp_judge.specs.declared.answer.LogAnswer.{LogAnswer}
 use Rattle.dp_judge.specs.declared.answer.LogAnswer.TheVariants as judged
-use Rattle.dp_learning.specs.Learning.{AreLearned}
 use Rattle.dp_learning.specs.Scaffolds.{scaffold_of}
 use Rattle.dp_parts.specs.Problems.{Csp, posed}
 use Rattle.dp_process.specs.Answers.{IsFailingAt}
@@ -17,14 +16,13 @@ use Rattle.dp_scaffold.specs.Scaffolds.{Learned}
 use Rattle.dp_scaffold.specs.Texts.{scaffold_text}
 use Rattle.dp_scaffold.specs.declared.answer.ScaffoldAnswer.{ScaffoldAnswer}
 use Rattle.dp_scaffold.specs.declared.answer.ScaffoldAnswer.TheVariants as gathered
-use Rattle.dp_solver.specs.Outcomes.{IsOutcome}
 use Rattle.dp_solver.specs.declared.outcome.Outcome.{Outcome}
 use Rattle.dp_writer.specs.Steps.{lines, text_of}
 use Rattle.fz_model.specs.Models.{Plan}
 use Rattle.fz_prove.specs.declared.proof.Proof.{Proof}
 use Rattle.fz_prove.specs.declared.proof.Proof.TheVariants.{Unclaimed, Accepted, ScaffoldUnread, ScaffoldRefused, NotFollowing, LogUnread, LogRefused}
 use Rattle.fz_solve.specs.Printed.{outcome_status, outcome_text}
-use Rattle.fz_solve.specs.Solved.{IsTruth}
+use Rattle.fz_solve.specs.Solved.{Finds, IsTruth}
 
 -- the end by the answer for the log, behind the solution's text
 abbrev pub log_end : List ℕ → LogAnswer → Proof
@@ -56,15 +54,11 @@ IsProven m p outcome nogoods (Some claim) proof =
     IsInLimits p nogoods claim → ((s : Learned) → scaffold_text (posed p) (scaffold_of p nogoods (Some claim)) ≡ gathered.Given s → AreShort (lines (log_of p s)) (text_of (log_of p s)))
     → proof ≡ Accepted (outcome_text m outcome) claim
 
--- A search of the problem has an outcome: at most so many nogoods, each learned behind those before it, and what is claimed. What
--- it says is true of the model; and this is its end, which is acceptance where no limit is passed.
+-- A search of the problem found an outcome. What it says is true of the model; and this is its end, which is acceptance where no
+-- limit is passed.
 pub record Proves (m : Plan) (p : Csp) (most : ℕ) (proof : Proof) : Type 0 where
   pub outcome : Outcome
-  pub nogoods : List (List Atomic)
-  pub claim : Option Verdict
-  pub learned : AreLearned (posed p) nogoods
-  pub few : length nogoods ≤ most
-  pub outcome_is : IsOutcome p most nogoods claim outcome
+  pub found : Finds p most outcome
   pub truth : IsTruth m outcome
-  pub ending : IsEnding m p outcome nogoods claim proof
-  pub proven : IsProven m p outcome nogoods claim proof
+  pub ending : IsEnding m p outcome found.nogoods found.claim proof
+  pub proven : IsProven m p outcome found.nogoods found.claim proof

@@ -29,10 +29,14 @@ pub record IsBest (m : Plan) (numbers : List ℤ) : Type 0 where
   pub satisfies : Satisfies m (valuation numbers)
   pub best : (s : ℕ → ℤ) (v w : ℤ) → Satisfies m s → objective_of m (valuation numbers) ≡ Some v → objective_of m s ≡ Some w → IsAsGood m.goal v w
 
+-- no assignment satisfies the model
+abbrev pub IsUnsatisfiable : Plan → Type 0
+IsUnsatisfiable m = (s : ℕ → ℤ) → Satisfies m s → ⊥
+
 -- what the outcome says is so
 abbrev pub IsTruth : Plan → Outcome → Type 0
 IsTruth m (Solution numbers) = Satisfies m (valuation numbers)
-IsTruth m Unsat = (s : ℕ → ℤ) → Satisfies m s → ⊥
+IsTruth m Unsat = IsUnsatisfiable m
 IsTruth m (Optimal numbers bound) = IsBest m numbers
 IsTruth m (Unknown best) = IfSome best (λ numbers. Satisfies m (valuation numbers))
 
@@ -50,25 +54,25 @@ HoldsFront Shut text = ⊥
 HoldsFront Hidden text = Unit {0}
 HoldsFront (Shown bytes) text = (rest : List ℕ) × (text ≡ bytes ++ rest)
 
--- the output holds the whole scaffold of this outcome of the problem
-pub record HoldsAll (p : Csp) (most : ℕ) (now : Channel) (outcome : Outcome) : Type 0 where
+-- a search of the problem found this outcome: at most so many nogoods, each learned behind those before it, and what is claimed
+pub record Finds (p : Csp) (most : ℕ) (outcome : Outcome) : Type 0 where
   pub nogoods : List (List Atomic)
   pub claim : Option Verdict
   pub learned : AreLearned (posed p) nogoods
   pub few : length nogoods ≤ most
   pub outcome_is : IsOutcome p most nogoods claim outcome
-  pub file : Holds now (scaffold_of p nogoods claim)
 
--- The first file holds the scaffold of an outcome of the problem: at most so many nogoods, each learned behind those before
--- it, and what is claimed. The answer grew by the outcome's text, whose status this is; and what it says is true of the model.
+-- the output holds the whole scaffold of what a search found
+pub record HoldsAll (p : Csp) (most : ℕ) (now : Channel) (outcome : Outcome) : Type 0 where
+  pub found : Finds p most outcome
+  pub file : Holds now (scaffold_of p found.nogoods found.claim)
+
+-- The first file holds the scaffold of what a search found. The answer grew by the text of the outcome, whose status this is; and
+-- what it says is true of the model.
 pub record Solved (m : Plan) (p : Csp) (most status : ℕ) (was now : Sight) : Type 0 where
   pub outcome : Outcome
-  pub nogoods : List (List Atomic)
-  pub claim : Option Verdict
-  pub learned : AreLearned (posed p) nogoods
-  pub few : length nogoods ≤ most
-  pub outcome_is : IsOutcome p most nogoods claim outcome
-  pub file : Holds now.first (scaffold_of p nogoods claim)
+  pub found : Finds p most outcome
+  pub file : Holds now.first (scaffold_of p found.nogoods found.claim)
   pub told : Grows was.answer now.answer (outcome_text m outcome)
   pub stands : status ≡ outcome_status outcome
   pub truth : IsTruth m outcome
@@ -83,15 +87,11 @@ pub record FilesFront (p : Csp) (most : ℕ) (was now : Channel) : Type 0 where
   pub follows : IfSome claim (Concludes (posed p) nogoods)
   pub file : (now ≡ was) ⊎ HoldsFront now (scaffold_of p nogoods claim)
 
--- the same, and the answer grew by a front of the text of an outcome of which it holds the whole scaffold
+-- the first file holds the scaffold of what a search found, and the answer grew by a front of the text of its outcome
 pub record SolvedPart (m : Plan) (p : Csp) (most : ℕ) (was now : Sight) : Type 0 where
   pub outcome : Outcome
-  pub nogoods : List (List Atomic)
-  pub claim : Option Verdict
-  pub learned : AreLearned (posed p) nogoods
-  pub few : length nogoods ≤ most
-  pub outcome_is : IsOutcome p most nogoods claim outcome
-  pub file : Holds now.first (scaffold_of p nogoods claim)
+  pub found : Finds p most outcome
+  pub file : Holds now.first (scaffold_of p found.nogoods found.claim)
   pub told : GrowsByPart was.answer now.answer (outcome_text m outcome)
 
 -- after a fault fronts of what was due stand there: of the file, with nothing told; or the whole file and a front of what is told

@@ -1,7 +1,7 @@
--- A file that was not opened.
+-- A file that was not opened, and one that holds what was found.
 use Rattle.std.proofs.Common.{ap}
 use Rattle.dp_desk.specs.Sight.{Sight}
-use Rattle.fz_solve.proofs.Files.{on_err, unopened}
+use Rattle.fz_solve.proofs.Files.{holds_found, on_err, unopened}
 use Rattle.fz_solve.specs.Solved.{FilesFront}
 use Rattle.fz_solve.proofs.solving.solve_to_file.Goals as goal
 
@@ -11,3 +11,8 @@ returns-in_err-open_out-clause-front g c =
     let now = (g.D.Desk.sight c.open_out.new.self).first in
     on_err c.from_residual.result (FilesFront c.args.problem.now c.args.conflicts was now)
     (unopened c.args.problem.now c.args.conflicts was now (ap (λ (t : Sight). t.first) c.in_err-open_out.ensures.failed))
+
+pub returns-clause-whole : goal.returns-clause-whole
+returns-clause-whole g c =
+    holds_found c.args.problem.now c.args.conflicts (g.D.Desk.sight c.open_out.new.self).first (g.D.Desk.sight c.solve.new.desk).first c.solve.result
+    c.in_ok-open_out.ensures.opened c.solve.ensures.solved
