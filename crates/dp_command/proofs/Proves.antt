@@ -1,5 +1,5 @@
 -- What a model is told that is proved.
-use Rattle.std.specs.Prelude.{◌≡◌, ◌⊎◌, ◌++◌, ◌==◌, ℕ, ◌≤◌, Bool, true, false, if◌then◌else◌, Option, Some, None, List}
+use Rattle.std.specs.Prelude.{◌≡◌, ◌⊎◌, ◌++◌, ℕ, ◌≤◌, Option, Some, None, List}
 use Rattle.std.proofs.Common.{refl, sym, ◌∙◌, ap, subst, inl, inr, arith}
 use Rattle.dp_desk.specs.Channel.{Channel, Files, Grows}
 use Rattle.dp_desk.specs.Sight.{Sight}
@@ -21,9 +21,9 @@ use Rattle.dp_solver.specs.declared.outcome.Outcome.{Outcome}
 use Rattle.dp_solver.specs.declared.outcome.Outcome.TheVariants.{Solution, Unsat, Optimal, Unknown as UnknownOutcome}
 use Rattle.dp_writer.specs.Steps.{text_of as log_text}
 use Rattle.fz_model.specs.Models.{Plan}
-use Rattle.fz_prove.specs.Proofs.{IsEnd, IsEnding, IsProven, Proves, log_end}
+use Rattle.fz_prove.specs.Proofs.{IsEnd, IsEnding, IsProven, Proves, log_end, told_alone}
 use Rattle.fz_prove.specs.declared.proof.Proof.{Proof}
-use Rattle.fz_prove.specs.declared.proof.Proof.TheVariants.{Unclaimed, Accepted, ScaffoldUnread, ScaffoldRefused, NotFollowing, LogUnread, LogRefused}
+use Rattle.fz_prove.specs.declared.proof.Proof.TheVariants.{Solved, Unknown, Accepted, ScaffoldUnread, ScaffoldRefused, NotFollowing, LogUnread, LogRefused}
 use Rattle.fz_solve.specs.Printed.{outcome_status, outcome_text}
 use Rattle.fz_solve.specs.Solved.{Finds}
 use Rattle.dp_command.proofs.Checks.{given_of}
@@ -40,7 +40,6 @@ use Rattle.dp_command.specs.Words.{Prove, IsProve, Spells}
 use Rattle.dp_command.specs.declared.finding.Found.{Found}
 use Rattle.dp_command.specs.declared.finding.Found.TheVariants.{Problem}
 use Rattle.dp_command.specs.declared.proving.Proving.{Proving}
-use Rattle.dp_command.specs.declared.proving.Proving.TheVariants as proving
 use Rattle.dp_command.specs.declared.reply.Reply.{Reply}
 use Rattle.dp_command.specs.declared.reply.Reply.TheVariants.{NoCommand, ModelRefused, Accepted as AcceptedReply, Unread, Refused, Shown as ShownLog, Processed, Proved}
 
@@ -66,24 +65,37 @@ checked_by p text told v (gathered.Given s) h =
 checked_by p text told v (gathered.Unread refusal) h = absurd cc
 checked_by p text told v (gathered.Refused refusal line) h = absurd cc
 
--- what is not claimed is not checked
-by_end : (text told : List ℕ) (status : ℕ) (a : LogAnswer) → Unclaimed told status ≡ log_end text a → ⊥
-by_end text told status (judged.Accepted w) e = cc
-by_end text told status (judged.Unread refusal) e = cc
-by_end text told status (judged.Refused refusal line) e = cc
+-- what is told alone is not checked
+abbrev IsAlone : Proof → Type 0
+IsAlone (Solved text) = Unit {0}
+IsAlone (Unknown text) = Unit {0}
+IsAlone end = ⊥
 
-not_unclaimed : (p : Csp) (text told : List ℕ) (status : ℕ) (a : ScaffoldAnswer) → IsEnd p text a (Unclaimed told status) → ⊥
-not_unclaimed p text told status (gathered.Given s) h = by_end text told status (judged_log (posed p) (log_text (log_of p s))) h.1
-not_unclaimed p text told status (gathered.Unread refusal) h = cc
-not_unclaimed p text told status (gathered.Refused refusal line) h = cc
+by_end : (text : List ℕ) (a : LogAnswer) → IsAlone (log_end text a) → ⊥
+by_end text (judged.Accepted w) h = h
+by_end text (judged.Unread refusal) h = h
+by_end text (judged.Refused refusal line) h = h
 
-not_accepted : (text told : List ℕ) (status : ℕ) (v : Verdict) → Accepted told v ≡ Unclaimed text status → ⊥
-not_accepted text told status v e = cc
+not_solved : (p : Csp) (text told : List ℕ) (a : ScaffoldAnswer) → IsEnd p text a (Solved told) → ⊥
+not_solved p text told (gathered.Given s) h = by_end text (judged_log (posed p) (log_text (log_of p s))) (subst (λ (e : Proof). IsAlone e) h.1 tt)
+not_solved p text told (gathered.Unread refusal) h = cc
+not_solved p text told (gathered.Refused refusal line) h = cc
+
+not_unknown : (p : Csp) (text told : List ℕ) (a : ScaffoldAnswer) → IsEnd p text a (Unknown told) → ⊥
+not_unknown p text told (gathered.Given s) h = by_end text (judged_log (posed p) (log_text (log_of p s))) (subst (λ (e : Proof). IsAlone e) h.1 tt)
+not_unknown p text told (gathered.Unread refusal) h = cc
+not_unknown p text told (gathered.Refused refusal line) h = cc
+
+not_accepted : (m : Plan) (o : Outcome) (told : List ℕ) (v : Verdict) → Accepted told v ≡ told_alone m o → ⊥
+not_accepted m (Solution numbers) told v e = cc
+not_accepted m Unsat told v e = cc
+not_accepted m (Optimal numbers bound) told v e = cc
+not_accepted m (UnknownOutcome best) told v e = cc
 
 -- the log of a proof that accepts
 log_by : (m : Plan) (p : Csp) (outcome : Outcome) (nogoods : List (List Atomic)) (claim : Option Verdict) (told : List ℕ) (v : Verdict) →
     IsEnding m p outcome nogoods claim (Accepted told v) → (log : List ℕ) × (judged_log (posed p) log ≡ judged.Accepted v)
-log_by m p outcome nogoods None told v h = absurd (not_accepted (outcome_text m outcome) told (outcome_status outcome) v h)
+log_by m p outcome nogoods None told v h = absurd (not_accepted m outcome told v h)
 log_by m p outcome nogoods (Some claim) told v h =
     let k = checked_by p (outcome_text m outcome) told v (scaffold_text (posed p) (scaffold_of p nogoods (Some claim))) h in
     (log_text (log_of p k.learned), k.accepted)
@@ -91,7 +103,8 @@ log_by m p outcome nogoods (Some claim) told v h =
 -- ---- what is accepted
 
 aimed_by : (m : Plan) (p : Csp) (outcome : Outcome) (nogoods : List (List Atomic)) (claim : Option Verdict) (end : Proof) → IsProblem p → IsEnding m p outcome nogoods claim end → IsAimed p end
-aimed_by m p outcome nogoods claim (Unclaimed text status) problem h = tt
+aimed_by m p outcome nogoods claim (Solved text) problem h = tt
+aimed_by m p outcome nogoods claim (Unknown text) problem h = tt
 aimed_by m p outcome nogoods claim (Accepted text v) problem h = let l = log_by m p outcome nogoods claim text v h in log_goal p problem l.0 v l.1
 aimed_by m p outcome nogoods claim (ScaffoldUnread refusal) problem h = tt
 aimed_by m p outcome nogoods claim (ScaffoldRefused refusal line) problem h = tt
@@ -103,13 +116,10 @@ aimed_by m p outcome nogoods claim (LogRefused refusal line) problem h = tt
 pub aimed_of : (m : Plan) (p : Csp) (most : ℕ) (end : Proof) → IsProblem p → Proves m p most end → IsAimed p end
 aimed_of m p most end problem h = aimed_by m p h.outcome h.found.nogoods h.found.claim end problem h.ending
 
-no_claim : (m : Plan) (text : List ℕ) (b : Bool) → IsTrueProving m (if b then proving.Solved text else proving.Unknown text)
-no_claim m text true = tt
-no_claim m text false = tt
-
 true_by : (m : Plan) (p : Csp) (outcome : Outcome) (nogoods : List (List Atomic)) (claim : Option Verdict) (end : Proof) → IsProblem p → IsProblemOf m p → IsEnding m p outcome nogoods claim end →
     IsTrueProving m (proving_of p end)
-true_by m p outcome nogoods claim (Unclaimed text status) problem is h = no_claim m text (status == 0)
+true_by m p outcome nogoods claim (Solved text) problem is h = tt
+true_by m p outcome nogoods claim (Unknown text) problem is h = tt
 true_by m p outcome nogoods claim (Accepted text v) problem is h =
     let l = log_by m p outcome nogoods claim text v h in is.true_of v (log_right p problem l.0 v l.1) (log_goal p problem l.0 v l.1)
 true_by m p outcome nogoods claim (ScaffoldUnread refusal) problem is h = tt
@@ -142,7 +152,7 @@ proving_at names model most m p told what is f h =
 
 -- the end of an outcome that claims nothing is told by its text and its status
 alone : (m : Plan) (p : Csp) (o : Outcome) →
-    (proving_text (proving_of p (Unclaimed (outcome_text m o) (outcome_status o))) ≡ outcome_text m o) × (proving_status (proving_of p (Unclaimed (outcome_text m o) (outcome_status o))) ≡ outcome_status o)
+    (proving_text (proving_of p (told_alone m o)) ≡ outcome_text m o) × (proving_status (proving_of p (told_alone m o)) ≡ outcome_status o)
 alone m p (Solution numbers) = (refl, refl)
 alone m p Unsat = (refl, refl)
 alone m p (Optimal numbers bound) = (refl, refl)
@@ -157,8 +167,10 @@ told_by : (m : Plan) (p : Csp) (o : Outcome) (nogoods : List (List Atomic)) (cla
     (proving_status (proving_of p end) ≡ 0) ⊎ (proving_status (proving_of p end) ≡ 4) → IsTold m p o nogoods claim (proving_text (proving_of p end)) (proving_status (proving_of p end))
 told_by m p o nogoods None end h holds good =
     subst (λ (e : Proof). IsTold m p o nogoods None (proving_text (proving_of p e)) (proving_status (proving_of p e))) (sym h) (alone m p o)
-told_by m p o nogoods (Some claim) (Unclaimed text status) h holds good =
-    absurd (not_unclaimed p (outcome_text m o) text status (scaffold_text (posed p) (scaffold_of p nogoods (Some claim))) h)
+told_by m p o nogoods (Some claim) (Solved text) h holds good =
+    absurd (not_solved p (outcome_text m o) text (scaffold_text (posed p) (scaffold_of p nogoods (Some claim))) h)
+told_by m p o nogoods (Some claim) (Unknown text) h holds good =
+    absurd (not_unknown p (outcome_text m o) text (scaffold_text (posed p) (scaffold_of p nogoods (Some claim))) h)
 told_by m p o nogoods (Some claim) (Accepted text v) h holds good =
     let k = checked_by p (outcome_text m o) text v (scaffold_text (posed p) (scaffold_of p nogoods (Some claim))) h in
     record {
@@ -231,7 +243,7 @@ good_small r (inr e) = omega (arith, e)
 
 -- ---- a limit
 
-not_one : (m : Plan) (p : Csp) (o : Outcome) (end : Proof) → end ≡ Unclaimed (outcome_text m o) (outcome_status o) → proving_status (proving_of p end) ≡ 1 → ⊥
+not_one : (m : Plan) (p : Csp) (o : Outcome) (end : Proof) → end ≡ told_alone m o → proving_status (proving_of p end) ≡ 1 → ⊥
 not_one m p o end e h = by_outcome o (sym (alone m p o).1 ∙ subst (λ (q : Proof). proving_status (proving_of p q) ≡ 1) e h)
   where
     by_outcome : (o : Outcome) → outcome_status o ≡ 1 → ⊥

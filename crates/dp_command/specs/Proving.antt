@@ -1,5 +1,5 @@
 -- What proving a model ends with, by the own names of variables.
-use Rattle.std.specs.Prelude.{◌≡◌, ℕ, ◌==◌, if◌then◌else◌}
+use Rattle.std.specs.Prelude.{◌≡◌, ℕ}
 use Rattle.dp_judge.specs.Logs.{IsOfGoal}
 use Rattle.dp_parts.specs.Problems.{Csp}
 use Rattle.fz_model.specs.Models.{Plan}
@@ -13,7 +13,8 @@ use Rattle.dp_command.specs.declared.proving.Proving.TheVariants.{Solved, Unknow
 
 -- what a proof of the problem ends with
 abbrev pub proving_of : Csp → Proof → Proving
-proving_of p (proof.Unclaimed text status) = if status == 0 then Solved text else Unknown text
+proving_of p (proof.Solved text) = Solved text
+proving_of p (proof.Unknown text) = Unknown text
 proving_of p (proof.Accepted text verdict) = Accepted text (claim_of p verdict)
 proving_of p (proof.ScaffoldUnread refusal) = Unread refusal
 proving_of p (proof.ScaffoldRefused refusal text) = ScaffoldRefused refusal text

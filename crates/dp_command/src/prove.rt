@@ -1,6 +1,6 @@
 // The command that proves a model.
 
-ghost use Rattle.std.specs.Prelude.{◌≡◌, ◌==◌, ◌≤◌, if◌then◌else◌, IfOk};
+ghost use Rattle.std.specs.Prelude.{◌≡◌, ◌≤◌, IfOk};
 ghost use Rattle.dp_desk.specs.Sight.{with_input};
 ghost use Rattle.dp_command.specs.Due.{AreAtEnd, LeavesUnread};
 ghost use Rattle.dp_command.specs.Found.{IsProblemOf};
@@ -9,14 +9,13 @@ ghost use Rattle.dp_command.specs.Proving.{IsAimed, IsProving, proving_of};
 ghost use Rattle.dp_command.specs.Replies.{RepliesTo};
 ghost use Rattle.dp_command.specs.Texts.{status_of};
 ghost use Rattle.dp_command.specs.Words.{Prove};
-ghost use Rattle.dp_command.specs.declared.proving.Proving.TheVariants.{Solved, Unknown};
 
 use crate::Trouble;
 use crate::finding::{Found, read_problem};
 use crate::naming::claim_of;
 use crate::proving::Proving;
 use crate::reply::Reply;
-use dp_base::{Memory, Text};
+use dp_base::Memory;
 use dp_desk::{Desk, In};
 use dp_parts::Problem;
 use fz_model::Model;
@@ -73,7 +72,8 @@ fn proving_of(alloc: Global, problem: &Problem, proof: Proof) -> Result<Proving,
     ensures { IfOk result (λ proving. proving ≡ proving_of problem.now proof) }
 {
     match proof {
-        Proof::Unclaimed(text, status) => Ok(unclaimed(text, status)),
+        Proof::Solved(text) => Ok(Proving::Solved(text)),
+        Proof::Unknown(text) => Ok(Proving::Unknown(text)),
         Proof::Accepted(text, verdict) => {
             let claim = claim_of(alloc, problem, verdict)?;
             Ok(Proving::Accepted(text, claim))
@@ -83,16 +83,5 @@ fn proving_of(alloc: Global, problem: &Problem, proof: Proof) -> Result<Proving,
         Proof::NotFollowing(_place, line, id) => Ok(Proving::NotFollowing(line, id)),
         Proof::LogUnread(refusal) => Ok(Proving::Unread(refusal)),
         Proof::LogRefused(refusal, text) => Ok(Proving::LogRefused(refusal, text)),
-    }
-}
-
-// The text of an outcome that claims nothing, by its status.
-fn unclaimed(text: Text, status: u8) -> Proving
-    ensures { result ≡ (if status == 0 then Solved text else Unknown text) }
-{
-    if status == 0 {
-        Proving::Solved(text)
-    } else {
-        Proving::Unknown(text)
     }
 }

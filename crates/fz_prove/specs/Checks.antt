@@ -19,8 +19,8 @@ use Rattle.dp_writer.specs.Steps.{lines, text_of}
 use Rattle.fz_model.specs.Models.{Plan}
 use Rattle.fz_prove.specs.Proofs.{IsEnd}
 use Rattle.fz_prove.specs.declared.proof.Proof.{Proof}
-use Rattle.fz_prove.specs.declared.proof.Proof.TheVariants.{Unclaimed, Accepted}
-use Rattle.fz_solve.specs.Printed.{outcome_status, outcome_text}
+use Rattle.fz_prove.specs.declared.proof.Proof.TheVariants.{Solved, Unknown as NotKnown, Accepted}
+use Rattle.fz_solve.specs.Printed.{outcome_text}
 use Rattle.fz_solve.specs.Solved.{Finds, Holds}
 
 -- the output holds the whole scaffold of what a search found, in lines that a log may have, and no nogood has an atom twice
@@ -47,7 +47,7 @@ pub record IsChecked (p : Csp) (text bytes : List ℕ) (proof : Proof) : Type 0 
 
 -- the end of an outcome, whose scaffold has these bytes
 abbrev pub IsTold : Plan → Csp → List ℕ → Outcome → Proof → Type 0
-IsTold m p bytes (Solution numbers) proof = proof ≡ Unclaimed (outcome_text m (Solution numbers)) (outcome_status (Solution numbers))
+IsTold m p bytes (Solution numbers) proof = proof ≡ Solved (outcome_text m (Solution numbers))
 IsTold m p bytes Unsat proof = IsChecked p (outcome_text m Unsat) bytes proof
 IsTold m p bytes (Optimal numbers bound) proof = IsChecked p (outcome_text m (Optimal numbers bound)) bytes proof
-IsTold m p bytes (Unknown best) proof = proof ≡ Unclaimed (outcome_text m (Unknown best)) (outcome_status (Unknown best))
+IsTold m p bytes (Unknown best) proof = proof ≡ NotKnown (outcome_text m (Unknown best))

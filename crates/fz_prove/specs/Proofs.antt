@@ -17,11 +17,12 @@ use Rattle.dp_scaffold.specs.Texts.{scaffold_text}
 use Rattle.dp_scaffold.specs.declared.answer.ScaffoldAnswer.{ScaffoldAnswer}
 use Rattle.dp_scaffold.specs.declared.answer.ScaffoldAnswer.TheVariants as gathered
 use Rattle.dp_solver.specs.declared.outcome.Outcome.{Outcome}
+use Rattle.dp_solver.specs.declared.outcome.Outcome.TheVariants as solved
 use Rattle.dp_writer.specs.Steps.{lines, text_of}
 use Rattle.fz_model.specs.Models.{Plan}
 use Rattle.fz_prove.specs.declared.proof.Proof.{Proof}
-use Rattle.fz_prove.specs.declared.proof.Proof.TheVariants.{Unclaimed, Accepted, ScaffoldUnread, ScaffoldRefused, NotFollowing, LogUnread, LogRefused}
-use Rattle.fz_solve.specs.Printed.{outcome_status, outcome_text}
+use Rattle.fz_prove.specs.declared.proof.Proof.TheVariants.{Solved, Unknown, Accepted, ScaffoldUnread, ScaffoldRefused, NotFollowing, LogUnread, LogRefused}
+use Rattle.fz_solve.specs.Printed.{outcome_text}
 use Rattle.fz_solve.specs.Solved.{Finds, IsTruth}
 
 -- the end by the answer for the log, behind the solution's text
@@ -41,9 +42,14 @@ IsEnd p text (gathered.Given s) proof = IsEndOf p text s proof
 IsEnd p text (gathered.Unread refusal) proof = proof ≡ ScaffoldUnread refusal
 IsEnd p text (gathered.Refused refusal line) proof = proof ≡ ScaffoldRefused refusal line
 
+-- the end of an outcome that claims nothing: its text, by whether the solver came to an end
+abbrev pub told_alone : Plan → Outcome → Proof
+told_alone m (solved.Unknown best) = Unknown (outcome_text m (solved.Unknown best))
+told_alone m end = Solved (outcome_text m end)
+
 -- the end of an outcome: told alone where nothing is claimed, else by what becomes of its scaffold
 abbrev pub IsEnding : Plan → Csp → Outcome → List (List Atomic) → Option Verdict → Proof → Type 0
-IsEnding m p outcome nogoods None proof = proof ≡ Unclaimed (outcome_text m outcome) (outcome_status outcome)
+IsEnding m p outcome nogoods None proof = proof ≡ told_alone m outcome
 IsEnding m p outcome nogoods (Some claim) proof =
     IsEnd p (outcome_text m outcome) (scaffold_text (posed p) (scaffold_of p nogoods (Some claim))) proof
 

@@ -6,11 +6,13 @@ use dp_domain::Verdict;
 use dp_lines::LineRefusal;
 use dp_scaffold::ScaffoldRefusal;
 
-/// How proving a model ends. Where no limit of scaffolds and logs is passed, it is one of the first two.
+/// How proving a model ends. Where no limit of scaffolds and logs is passed, it is one of the first three.
 #[derive(Debug, Drop)]
 pub enum Proof {
-    /// Nothing is claimed: the text of the outcome, and its status.
-    Unclaimed(Text, u8),
+    /// The text of a solution, where nothing is claimed.
+    Solved(Text),
+    /// The text where the most nogoods were learned, and nothing is claimed.
+    Unknown(Text),
     /// The text of the outcome, and the claim of its log, which is accepted.
     Accepted(Text, Verdict),
     /// A line of the scaffold cannot be read.

@@ -15,7 +15,7 @@ use dp_desk::{Desk, MemoryDesk, Out};
 use dp_parts::Problem;
 use dp_solver::{Outcome, solve};
 use fz_model::Model;
-use fz_solve::{outcome_status, outcome_text};
+use fz_solve::outcome_text;
 use std::alloc::Global;
 
 /// Solves the problem of a model with at most so many nogoods, makes the scaffold into a log, and checks that, all in
@@ -79,8 +79,7 @@ fn tell(
     let text = Text::new(outcome_text(alloc, model, outcome)?);
     match outcome {
         Outcome::Unsat | Outcome::Optimal(..) => check_bytes(alloc, problem, text, scaffold),
-        Outcome::Solution(_) | Outcome::Unknown(_) => {
-            Ok(Proof::Unclaimed(text, outcome_status(outcome)))
-        }
+        Outcome::Solution(_) => Ok(Proof::Solved(text)),
+        Outcome::Unknown(_) => Ok(Proof::Unknown(text)),
     }
 }

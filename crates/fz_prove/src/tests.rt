@@ -50,10 +50,18 @@ fn is_accepted(proof: &Proof, answer: &str, claim: Verdict) -> bool {
     }
 }
 
-// Whether nothing was claimed, with this text and status.
-fn is_unclaimed(proof: &Proof, answer: &str, wanted: u8) -> bool {
+// Whether a solution was found, with this text, and nothing was claimed.
+fn is_solved(proof: &Proof, answer: &str) -> bool {
     match proof {
-        Proof::Unclaimed(text, status) => text.bytes() == answer.as_bytes() && *status == wanted,
+        Proof::Solved(text) => text.bytes() == answer.as_bytes(),
+        _ => false,
+    }
+}
+
+// Whether the most nogoods were learned, with this text.
+fn is_unknown(proof: &Proof, answer: &str) -> bool {
+    match proof {
+        Proof::Unknown(text) => text.bytes() == answer.as_bytes(),
         _ => false,
     }
 }
@@ -89,11 +97,8 @@ fn claims_are_accepted(rt: HostRuntime) -> Result<(), Fail> {
 fn outcomes_without_a_claim_are_told_alone(rt: HostRuntime) -> Result<(), Fail> {
     let alloc = rt.alloc();
     let proof = proved(alloc, TOUCHING, 1000)?;
-    assert!(rt;
-        is_unclaimed(&proof, "s = 2;\n----------\n", 0),
-        "{proof:?}"
-    );
+    assert!(rt; is_solved(&proof, "s = 2;\n----------\n"), "{proof:?}");
     let proof = proved(alloc, DIFFERENT, 1)?;
-    assert!(rt; is_unclaimed(&proof, "=====UNKNOWN=====\n", 4), "{proof:?}");
+    assert!(rt; is_unknown(&proof, "=====UNKNOWN=====\n"), "{proof:?}");
     Ok(())
 }
