@@ -11,7 +11,7 @@ use Rattle.dp_parts.specs.Problems.{Csp, posed}
 use Rattle.dp_process.specs.Met.{EachMetFollows}
 use Rattle.dp_process.specs.Processed.{log_of}
 use Rattle.dp_replay.specs.Accepting.{AreShort}
-use Rattle.dp_reread.specs.Rereading.{IsInLimits}
+use Rattle.fz_prove.specs.Rereading.{IsInLimits}
 use Rattle.dp_scaffold.specs.Scaffolds.{Learned}
 use Rattle.dp_scaffold.specs.Texts.{scaffold_text}
 use Rattle.dp_scaffold.specs.declared.answer.ScaffoldAnswer.TheVariants.{Given}

@@ -20,8 +20,8 @@ use Rattle.dp_parts.specs.declared.goal.Goal.TheVariants.{Satisfy, Minimize, Max
 use Rattle.dp_process.specs.Met.{EachMetFollows}
 use Rattle.dp_process.specs.Processed.{log_of}
 use Rattle.dp_replay.specs.Accepting.{AreShort}
-use Rattle.dp_reread.specs.Rereading.{IsInLimits, IsReadAs}
-use Rattle.dp_reread.proofs.RereadLemmas.{rereads}
+use Rattle.fz_prove.specs.Rereading.{IsInLimits, IsReadAs}
+use Rattle.fz_prove.proofs.RereadLemmas.{rereads}
 use Rattle.dp_rule_clause.specs.Nogoods.{IsOnce}
 use Rattle.dp_scaffold.specs.Scaffolds.{Learned}
 use Rattle.dp_scaffold.specs.Texts.{scaffold_text}

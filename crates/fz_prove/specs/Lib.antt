@@ -1,2 +1,3 @@
 pub mod Proofs
 pub mod Checks
+pub mod Rereading

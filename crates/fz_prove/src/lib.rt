@@ -2,9 +2,11 @@
 #![tactic(auto)]
 
 mod checking;
+mod laws;
 mod proof;
 mod proving;
 
+pub use laws::reread;
 pub use proof::Proof;
 pub use proving::prove_model;
 

@@ -26,9 +26,9 @@ use Rattle.dp_writer.specs.Atoms.{Named, named_defined, same}
 use Rattle.dp_writer.specs.Numbering.{line_if_new, new_lines, with_atom as table_with, with_atoms}
 use Rattle.dp_writer.specs.Steps.{atoms_in, atoms_of, definition, line_of_bound, literals_in}
 use Rattle.dp_writer.specs.Written.{bound_of, conclusion, named}
-use Rattle.dp_reread.proofs.AtomLemmas.{defined_leads, once_whole}
-use Rattle.dp_reread.proofs.GatherLemmas.{Gathers, gathers_append, gathers_line}
-use Rattle.dp_reread.proofs.NumberLemmas.{has_place, number_new, numbers, numbers_push}
+use Rattle.fz_prove.proofs.AtomLemmas.{defined_leads, once_whole}
+use Rattle.fz_prove.proofs.GatherLemmas.{Gathers, gathers_append, gathers_line}
+use Rattle.fz_prove.proofs.NumberLemmas.{has_place, number_new, numbers, numbers_push}
 
 -- what is said of these defined atoms and these nogoods, which stand on these lines, before a claim
 abbrev pub said : List Atomic → List (List Atomic) → List ℕ → Gathered

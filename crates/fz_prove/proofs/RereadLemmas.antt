@@ -23,8 +23,8 @@ use Rattle.dp_scaffold.specs.Scaffolds.{Learned, nogood_of}
 use Rattle.dp_scaffold.specs.Texts.{answer_after, give}
 use Rattle.dp_scaffold.specs.declared.refusal.ScaffoldRefusal.{ScaffoldRefusal}
 use Rattle.dp_writer.specs.Steps.{lines}
-use Rattle.dp_reread.specs.Rereading.{IsInLimits, IsReadAs}
-use Rattle.dp_reread.proofs.StepLemmas.{Says, all_say}
+use Rattle.fz_prove.specs.Rereading.{IsInLimits, IsReadAs}
+use Rattle.fz_prove.proofs.StepLemmas.{Says, all_say}
 
 -- two facts of each item are one
 both : {A : Type 0} (P Q : A → Type 0) (xs : List A) → Each P xs → Each Q xs → Each (λ x. P x × Q x) xs

@@ -28,10 +28,10 @@ use Rattle.dp_writer.specs.Written.{conclusion, named, nogood}
 use Rattle.dp_writer.proofs.FirstLemmas.{atoms_after, lines_are}
 use Rattle.dp_writer.proofs.ReadingLemmas.{are_read}
 use Rattle.dp_writer.proofs.WrittenLemmas.{count_push}
-use Rattle.dp_reread.proofs.AtomLemmas.{atoms_named, claim_leads, nogood_leads}
-use Rattle.dp_reread.proofs.GatherLemmas.{Gathers, gathers_append}
-use Rattle.dp_reread.proofs.LineLemmas.{atoms_gather, claim_gathers, closed, nogood_gathers, said}
-use Rattle.dp_reread.proofs.NumberLemmas.{few_so_far, small_so_far}
+use Rattle.fz_prove.proofs.AtomLemmas.{atoms_named, claim_leads, nogood_leads}
+use Rattle.fz_prove.proofs.GatherLemmas.{Gathers, gathers_append}
+use Rattle.fz_prove.proofs.LineLemmas.{atoms_gather, claim_gathers, closed, nogood_gathers, said}
+use Rattle.fz_prove.proofs.NumberLemmas.{few_so_far, small_so_far}
 
 -- ---- literals
 
