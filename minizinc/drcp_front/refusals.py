@@ -1,0 +1,123 @@
+"""Refusals of drcp, told to a person: the place in the model, the line itself, and what to write instead."""
+
+import re
+from dataclasses import dataclass
+from typing import Optional
+
+from .flatzinc import FlatModel, place_of
+
+MODEL_REFUSAL = re.compile(r"model refused: (\w+) at byte (\d+)")
+CONSTRAINT_FIELD = re.compile(r"\bc:(\d+)\b")
+
+# A constraint or a word of the compiled model, what it is in MiniZinc's words, and what to write instead.
+BEYOND = "compile with the library of drcp (--solver org.drcp.solve), which says it by constraints that are read"
+CONSTRUCTS = [
+    (r"float|int2float|array_float_\w+", "a float", "use integers: count in cents, millimetres or seconds"),
+    (r"set|set_\w+|array_set_\w+|array_var_set_\w+", "a set variable", BEYOND),
+    (r"int_times", "the product `x * y` of two variables", BEYOND),
+    (r"int_div", "the quotient `x div y`", BEYOND),
+    (r"int_mod", "the rest `x mod y`", BEYOND),
+    (r"int_pow\w*", "the power `x ^ y` or `pow(x, y)`", BEYOND),
+    (r"int_max|array_int_maximum", "the maximum `max(..)`", BEYOND),
+    (r"int_min|array_int_minimum", "the minimum `min(..)`", BEYOND),
+    (r"int_abs", "the absolute value `abs(x)`", BEYOND),
+    (r"bool_lin_\w+", "a sum of Booleans", BEYOND),
+    (r"array_bool_xor", "`xorall` or `iffall`", BEYOND),
+    (r"\w+_imp", "an implied constraint", BEYOND),
+    (r"(fzn_)?cumulative\w*", "`cumulative` with a variable duration, use or capacity", BEYOND),
+]
+
+REASONS = {
+    "BadByte": "this byte begins no token of FlatZinc",
+    "Number": "this number is beyond 10^18 on one side, or has no digit",
+    "OpenString": "this string is not closed on its line",
+    "Syntax": "FlatZinc has no such word here",
+    "Unknown": "this name is not declared above",
+    "Declared": "this name is declared twice",
+    "Kind": "this has another type or size than is wanted here",
+    "Limit": "this is beyond a limit: bounds and coefficients lie within 10^9 on both sides, other numbers within 10^18",
+}
+
+
+@dataclass
+class Told:
+    """A refused model as a person reads it."""
+
+    why: str
+    line: int
+    column: int
+    text: str
+    instead: Optional[str] = None
+
+    def __str__(self) -> str:
+        shown, shift = clipped(self.text, self.column)
+        lines = [f"{self.why} (line {self.line}, column {self.column} of the compiled model)"]
+        lines += [f"  {shown}", "  " + " " * (self.column - 1 - shift) + "^"]
+        if self.instead:
+            lines.append(f"instead: {self.instead}")
+        return "\n".join(lines)
+
+
+def clipped(line: str, column: int, width: int = 110) -> tuple:
+    """The part of a long line around a column, and how many characters of its front are left out."""
+    if len(line) <= width:
+        return line, 0
+    shift = max(0, min(column - width // 2, len(line) - width))
+    return line[shift : shift + width], shift
+
+
+def told_model_refusal(answer: str, model: FlatModel) -> str:
+    """What `drcp` said of a refused model, in words."""
+    found = MODEL_REFUSAL.search(answer)
+    if not found:
+        return answer.strip()
+    why, at = found[1], int(found[2])
+    place = place_of(model.text.encode(), at)
+    rest = place.text[place.column - 1 :]
+    word = (re.match(r"\w+", rest) or [""])[0]
+    if why == "Unbounded":
+        return str(Told(*unbounded(model, at, place)))
+    if why != "Unsupported":
+        return str(Told(f"model refused: {why}: {REASONS.get(why, why)}", place.line, place.column, place.text))
+    reason, instead = unsupported(word, place.text)
+    return str(Told(f"model refused: {reason}", place.line, place.column, place.text, instead))
+
+
+def unbounded(model: FlatModel, at: int, place) -> tuple:
+    name = (re.search(r"(\w+)[^:]*$", re.split(r"::", place.text[: place.column - 1])[0]) or ["", "?"])[1]
+    why = f"model refused: the variable `{name}` has no bounds"
+    if name.startswith("X_INTRODUCED"):
+        why += ", which the compiler made for an expression whose variables have none"
+    return why, place.line, place.column, place.text, f"give it some: `var 0..1000: {name};`"
+
+
+def unsupported(word: str, line: str) -> tuple:
+    """What an unsupported word stands for, and what to write instead."""
+    name = (re.search(r":\s*(\w+)", line) or ["", ""])[1]
+    declares = re.match(r"\s*(var|array)\b", line)
+    if word == "float" and declares:
+        return f"`{name}` is a float; integers and Booleans alone are read", CONSTRUCTS[0][2]
+    if re.match(r"\s*solve\b", line):
+        return f"the goal `{word}` is a constant", f"minimize a variable: `var int: cost = {word};`"
+    for names, construct, instead in CONSTRUCTS:
+        if re.fullmatch(names, word):
+            return f"{construct} is not read (`{word}`)", instead
+    if re.match(r"-?\d*\.\d", line[line.find(word) :]):
+        return "a float is not read", CONSTRUCTS[0][2]
+    if "constraint" in line:
+        return f"the constraint `{word}` is not read", BEYOND
+    return f"`{word}` is not read", None
+
+
+def told_log_refusal(answer: str, model: FlatModel) -> str:
+    """What `drcp` said of a refused log, with the constraint item that its line names by `c:K`."""
+    lines = [answer.strip()]
+    for number in dict.fromkeys(CONSTRAINT_FIELD.findall("\n".join(answer.splitlines()[1:]))):
+        item = model.constraint(int(number))
+        if item is None:
+            count = len(model.constraints)
+            lines.append(f"c:{number} names no constraint item: the model has {count}")
+        else:
+            place, text = item
+            lines.append(f"c:{number} is the constraint item on line {place.line} of the model: {clipped(text, 1, 200)[0]}")
+    return "\n".join(lines)

@@ -1,0 +1,25 @@
+include "drcp_limits.mzn";
+
+% a * b = c, said for each value of the factor that has fewer of them.
+predicate int_times(var int: a, var int: b, var int: c) =
+  if is_fixed(a) then fix(a) * b = c
+  elseif is_fixed(b) then fix(b) * a = c
+  elseif card(drcp_hull(a)) <= card(drcp_hull(b)) then drcp_product_by_values(a, b, c)
+  else drcp_product_by_values(b, a, c)
+  endif;
+
+% The multiple of `other` that the value of `few` chooses is the product.
+predicate drcp_product_by_values(var int: few, var int: other, var int: product) =
+  assert(
+    card(drcp_hull(few)) <= drcp_product_limit,
+    "drcp: a product of two variables, neither of which has at most " ++ show(drcp_product_limit)
+      ++ " values between its bounds. Give one of them tighter bounds."
+  ) /\
+  let {
+    array [drcp_hull(few)] of var int: multiples =
+      array1d(drcp_hull(few), [drcp_multiple(other, value, value in dom(few)) | value in drcp_hull(few)]);
+  } in multiples[few] = product;
+
+% value * other; 0 for a value that is not taken.
+function var int: drcp_multiple(var int: other, int: value, bool: taken) =
+  if taken then value * other else 0 endif;
