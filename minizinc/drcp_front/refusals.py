@@ -2,17 +2,20 @@
 
 import re
 from dataclasses import dataclass
-from typing import Optional
+from typing import Callable, Optional
 
 from .flatzinc import FlatModel, place_of
 
 MODEL_REFUSAL = re.compile(r"model refused: (\w+) at byte (\d+)")
 CONSTRAINT_FIELD = re.compile(r"\bc:(\d+)\b")
 
+FLOAT_ITEM = re.compile(r"(?:var|array)\b[^:]*(?:float|\d\.\d)[^:]*:\s*(\w+)")
+NO_FLOATS = "use integers: count in cents, millimetres or seconds"
+
 # A constraint or a word of the compiled model, what it is in MiniZinc's words, and what to write instead.
 BEYOND = "compile with the library of drcp (--solver org.drcp.solve), which says it by constraints that are read"
 CONSTRUCTS = [
-    (r"float|int2float|array_float_\w+", "a float", "use integers: count in cents, millimetres or seconds"),
+    (r"float|int2float|array_float_\w+", "a float", NO_FLOATS),
     (r"set|set_\w+|array_set_\w+|array_var_set_\w+", "a set variable", BEYOND),
     (r"int_times", "the product `x * y` of two variables", BEYOND),
     (r"int_div", "the quotient `x div y`", BEYOND),
@@ -80,6 +83,8 @@ def told_model_refusal(answer: str, model: FlatModel) -> str:
     if why != "Unsupported":
         return str(Told(f"model refused: {why}: {REASONS.get(why, why)}", place.line, place.column, place.text))
     reason, instead = unsupported(word, place.text)
+    if instead == NO_FLOATS:
+        reason = float_in_words(model)
     return str(Told(f"model refused: {reason}", place.line, place.column, place.text, instead))
 
 
@@ -91,26 +96,31 @@ def unbounded(model: FlatModel, at: int, place) -> tuple:
     return why, place.line, place.column, place.text, f"give it some: `var 0..1000: {name};`"
 
 
+def float_in_words(model: FlatModel) -> str:
+    """The first float variable that the model itself names, or that there is one."""
+    for _, item in model.items():
+        found = FLOAT_ITEM.match(item)
+        if found and not found[1].startswith("X_INTRODUCED"):
+            return f"`{found[1]}` is a float; integers and Booleans alone are read"
+    return "a float is not read: integers and Booleans alone are"
+
+
 def unsupported(word: str, line: str) -> tuple:
     """What an unsupported word stands for, and what to write instead."""
-    name = (re.search(r":\s*(\w+)", line) or ["", ""])[1]
-    declares = re.match(r"\s*(var|array)\b", line)
-    if word == "float" and declares:
-        return f"`{name}` is a float; integers and Booleans alone are read", CONSTRUCTS[0][2]
     if re.match(r"\s*solve\b", line):
         return f"the goal `{word}` is a constant", f"minimize a variable: `var int: cost = {word};`"
     for names, construct, instead in CONSTRUCTS:
         if re.fullmatch(names, word):
             return f"{construct} is not read (`{word}`)", instead
     if re.match(r"-?\d*\.\d", line[line.find(word) :]):
-        return "a float is not read", CONSTRUCTS[0][2]
+        return "a float is not read", NO_FLOATS
     if "constraint" in line:
         return f"the constraint `{word}` is not read", BEYOND
     return f"`{word}` is not read", None
 
 
-def told_log_refusal(answer: str, model: FlatModel) -> str:
-    """What `drcp` said of a refused log, with the constraint item that its line names by `c:K`."""
+def told_log_refusal(answer: str, model: FlatModel, source: Callable[[int], Optional[str]] = lambda number: None) -> str:
+    """What `drcp` said of a refused log, with the constraint item that its line names by `c:K`, and its source if known."""
     lines = [answer.strip()]
     for number in dict.fromkeys(CONSTRAINT_FIELD.findall("\n".join(answer.splitlines()[1:]))):
         item = model.constraint(int(number))
@@ -120,4 +130,5 @@ def told_log_refusal(answer: str, model: FlatModel) -> str:
         else:
             place, text = item
             lines.append(f"c:{number} is the constraint item on line {place.line} of the model: {clipped(text, 1, 200)[0]}")
+            lines += filter(None, [source(int(number))])
     return "\n".join(lines)

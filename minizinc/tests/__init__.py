@@ -1,0 +1,1 @@
+"""Tests of the library and the front end; minizinc/test runs them."""
