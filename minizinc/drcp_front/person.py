@@ -59,11 +59,14 @@ class Person:
         inputs = [("the model", source)] + [("the data", path) for path in data]
         refuse_twice(inputs + [("the kept model", kept.model), ("the scaffold", kept.scaffold), ("the log", kept.log)])
         folder.mkdir(parents=True, exist_ok=True)
+        for old in (kept.scaffold, kept.log):
+            if old.exists():
+                old.unlink()
         ozn = self.compile(source, data, kept.model)
         marks = self.solve_model(kept.model, kept.scaffold, ozn)
         self.tell(f"kept {kept.model} and {kept.scaffold}")
         if COMPLETE not in marks and UNSATISFIABLE not in marks:
-            print("a solution claims nothing that a log could prove" if marks else "nothing is claimed")
+            self.tell("a solution claims nothing that a log could prove")
             return program.ENDED_WELL
         self.process_scaffold(kept.model, kept.scaffold, kept.log)
         self.check_log(kept.model, kept.log)

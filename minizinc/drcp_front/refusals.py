@@ -2,7 +2,7 @@
 
 import re
 from dataclasses import dataclass
-from typing import Callable, Optional
+from typing import Callable, Optional, Tuple
 
 from .flatzinc import FlatModel, place_of
 
@@ -61,7 +61,7 @@ class Told:
         return "\n".join(lines)
 
 
-def clipped(line: str, column: int, width: int = 110) -> tuple:
+def clipped(line: str, column: int, width: int = 110) -> Tuple[str, int]:
     """The part of a long line around a column, and how many characters of its front are left out."""
     if len(line) <= width:
         return line, 0
@@ -84,7 +84,10 @@ def told_model_refusal(answer: str, model: FlatModel) -> str:
         return str(Told(f"model refused: {why}: {REASONS.get(why, why)}", place.line, place.column, place.text))
     reason, instead = unsupported(word, place.text)
     if instead == NO_FLOATS:
-        reason = float_in_words(model)
+        named = first_float(model)
+        reason = f"`{named[1]}` is a float" if named else "a float is not read"
+        reason += "; integers and Booleans alone are read"
+        place = place_of(model.text.encode(), named[0]) if named else place
     return str(Told(f"model refused: {reason}", place.line, place.column, place.text, instead))
 
 
@@ -96,13 +99,13 @@ def unbounded(model: FlatModel, at: int, place) -> tuple:
     return why, place.line, place.column, place.text, f"give it some: `var 0..1000: {name};`"
 
 
-def float_in_words(model: FlatModel) -> str:
-    """The first float variable that the model itself names, or that there is one."""
-    for _, item in model.items():
+def first_float(model: FlatModel) -> Optional[Tuple[int, str]]:
+    """The first float variable that the model itself names: its byte, and its name."""
+    for at, item in model.items():
         found = FLOAT_ITEM.match(item)
         if found and not found[1].startswith("X_INTRODUCED"):
-            return f"`{found[1]}` is a float; integers and Booleans alone are read"
-    return "a float is not read: integers and Booleans alone are"
+            return len(model.text[:at].encode()), found[1]
+    return None
 
 
 def unsupported(word: str, line: str) -> tuple:

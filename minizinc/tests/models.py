@@ -43,6 +43,12 @@ def runs_of_two(word) -> bool:
     return all(word[i : i + 3] != [1, 1, 1] for i in range(len(word)))
 
 
+def members(printed) -> set:
+    """The numbers of a set as JSON has it: single ones and ranges."""
+    ranges = [part if isinstance(part, list) else [part, part] for part in printed["set"]]
+    return {number for low, high in ranges for number in range(low, high + 1)}
+
+
 def is_tour(successors) -> bool:
     seen, at = [], 1
     while at not in seen:
@@ -107,7 +113,7 @@ CASES = [
         "cumulative with a variable capacity",
         """include "cumulative.mzn"; array[1..3] of var 0..2: s; var 0..9: room;
         constraint cumulative(s, [2,2,2], [3,2,1], room); solve minimize room;""",
-        4,
+        3,
         lambda v: peak(list(zip(v["s"], [2, 2, 2], [3, 2, 1]))) <= v["room"],
         ("fzn_cumulative",),
         "room",
@@ -116,7 +122,7 @@ CASES = [
         "cumulative with variable durations and uses",
         """include "cumulative.mzn"; array[1..2] of var 0..3: s; array[1..2] of var 1..3: d; array[1..2] of var 1..2: r;
         constraint cumulative(s, d, r, 2); constraint sum(d) = 5; constraint r[1] + r[2] = 3;
-        constraint s[1] + d[1] <= 6 /\\ s[2] + d[2] <= 6; var int: end = max(s[1] + d[1], s[2] + d[2]); solve minimize end;""",
+        constraint s[1] + d[1] <= 6 /\\ s[2] + d[2] <= 6; var int: end; constraint end = max(s[1] + d[1], s[2] + d[2]); solve minimize end;""",
         5,
         lambda v: peak(list(zip(v["s"], v["d"], v["r"]))) <= 2 and sum(v["d"]) == 5 and sum(v["r"]) == 3,
         goal="end",
@@ -159,14 +165,14 @@ CASES = [
         "knapsack",
         """array[1..4] of var bool: take; array[1..4] of int: worth = [10,7,6,4]; array[1..4] of int: weight = [6,4,4,2];
         constraint sum(i in 1..4)(weight[i] * take[i]) <= 10;
-        var int: total = sum(i in 1..4)(worth[i] * take[i]); solve maximize total;""",
+        var int: total; constraint total = sum(i in 1..4)(worth[i] * take[i]); solve maximize total;""",
         17,
         lambda v: sum(w for w, t in zip([6, 4, 4, 2], v["take"]) if t) <= 10,
         goal="total",
     ),
     Case(
         "element of constants",
-        "var 1..5: i; var int: cost = [7,4,9,3,8][i]; constraint i mod 2 = 1; solve minimize cost;",
+        "var 1..5: i; var int: cost; constraint cost = [7,4,9,3,8][i]; constraint i mod 2 = 1; solve minimize cost;",
         7,
         lambda v: v["i"] == 1,
         goal="cost",
@@ -180,21 +186,21 @@ CASES = [
     Case(
         "element of a matrix",
         """var 1..2: i; var 1..3: j; array[1..2, 1..3] of int: t = [|4,1,7|2,9,5|];
-        constraint i + j = 4; var int: got = t[i,j]; solve maximize got;""",
+        constraint i + j = 4; var int: got; constraint got = t[i,j]; solve maximize got;""",
         9,
         lambda v: (v["i"], v["j"]) == (2, 2),
         goal="got",
     ),
     Case(
         "product",
-        "var 1..30: x; var 1..30: y; constraint x * y = 24 /\\ x < y; var int: cost = x + y; solve minimize cost;",
+        "var 1..30: x; var 1..30: y; constraint x * y = 24 /\\ x < y; var int: cost; constraint cost = x + y; solve minimize cost;",
         10,
         lambda v: (v["x"], v["y"]) == (4, 6),
         goal="cost",
     ),
     Case(
         "product of signed numbers",
-        "var {-4,-1,2,5}: x; var -6..6: y; var int: z = x * y; constraint y != 0; solve minimize z;",
+        "var {-4,-1,2,5}: x; var -6..6: y; var int: z; constraint z = x * y; constraint y != 0; solve minimize z;",
         -30,
         lambda v: v["x"] * v["y"] == v["z"],
         goal="z",
@@ -209,14 +215,14 @@ CASES = [
     Case(
         "greatest and least of many",
         """array[1..4] of var 0..20: x; constraint x[1] >= 5 /\\ x[2] <= 3 /\\ x[3] = x[1] + 1;
-        var int: spread = max(x) - min(x); solve minimize spread;""",
+        var int: spread; constraint spread = max(x) - min(x); solve minimize spread;""",
         3,
         lambda v: max(v["x"]) - min(v["x"]) == 3 and v["x"][2] == v["x"][0] + 1,
         goal="spread",
     ),
     Case(
         "absolute value",
-        "var -9..9: x; var -9..9: y; constraint abs(x) = 6 /\\ abs(y - x) >= 13; var int: cost = y; solve maximize cost;",
+        "var -9..9: x; var -9..9: y; constraint abs(x) = 6 /\\ abs(y - x) >= 13; var int: cost; constraint cost = y; solve maximize cost;",
         9,
         lambda v: abs(v["x"]) == 6 and abs(v["y"] - v["x"]) >= 13,
         goal="cost",
@@ -229,7 +235,7 @@ CASES = [
     ),
     Case(
         "quotient and rest of signed numbers",
-        """var -20..-10: x; var {-5, 0, 3}: y; var int: q = x div y; var int: r = x mod y;
+        """var -20..-10: x; var {-5, 0, 3}: y; var int: q; constraint q = x div y; var int: r; constraint r = x mod y;
         constraint q = 3 /\\ r = -2;""",
         SATISFIED,
         lambda v: (v["x"], v["y"]) == (-17, -5) and truncated(v["x"], v["y"]) == v["q"] and v["r"] == -2,
@@ -242,7 +248,7 @@ CASES = [
     ),
     Case(
         "variable power",
-        "var 2..4: b; var 0..6: e; var int: p = pow(b, e); constraint p < 100 /\\ e > b; solve maximize p;",
+        "var 2..4: b; var 0..6: e; var int: p; constraint p = pow(b, e); constraint p < 100 /\\ e > b; solve maximize p;",
         81,
         lambda v: v["b"] ** v["e"] == v["p"] and v["e"] > v["b"],
         goal="p",
@@ -269,12 +275,12 @@ CASES = [
         """var set of 1..5: A; var set of 1..5: B; constraint card(A) = 3 /\\ card(A intersect B) = 1;
         constraint A union B = 1..5 /\\ {1, 2} subset A /\\ not (3 in A) /\\ 4 in B /\\ 1 in B;""",
         SATISFIED,
-        lambda v: v["A"] == {"set": [1, 2, 5]} or v["A"] == {"set": [1, 2, 4]},
+        lambda v: members(v["A"]) == {1, 2, 5} and members(v["B"]) == {1, 3, 4},
     ),
     Case(
         "table",
         """include "table.mzn"; var 1..4: x; var 1..9: y; constraint table([x,y], [|1,9|2,5|3,2|4,7|]);
-        var int: cost = 2*x + y; solve minimize cost;""",
+        var int: cost; constraint cost = 2*x + y; solve minimize cost;""",
         8,
         lambda v: (v["x"], v["y"]) == (3, 2),
         goal="cost",
@@ -290,7 +296,7 @@ CASES = [
         "circuit",
         f"""include "circuit.mzn"; array[1..4] of var 1..4: next; constraint circuit(next);
         array[1..4, 1..4] of int: c = array2d(1..4, 1..4, {sum(COSTS, [])});
-        var int: cost = sum(i in 1..4)(c[i, next[i]]); solve minimize cost;""",
+        var int: cost; constraint cost = sum(i in 1..4)(c[i, next[i]]); solve minimize cost;""",
         10,
         lambda v: is_tour(v["next"]) and sum(COSTS[i][n - 1] for i, n in enumerate(v["next"])) == v["cost"],
         ("fzn_all_different_int",),
@@ -320,7 +326,7 @@ CASES = [
     Case(
         "order of words",
         """include "globals.mzn"; array[1..3] of var 0..2: x; constraint lex_less(x, [1,0,1]);
-        var int: n = 9*x[1] + 3*x[2] + x[3]; solve maximize n;""",
+        var int: n; constraint n = 9*x[1] + 3*x[2] + x[3]; solve maximize n;""",
         9,
         lambda v: v["x"] == [1, 0, 0],
         goal="n",
@@ -347,7 +353,7 @@ CASES = [
     Case(
         "implications and choices",
         """var 0..9: x; var bool: b; constraint b -> x > 5; constraint not b -> x < 3; constraint x >= 2;
-        var int: cost = if b then x + 1 else 10 * x endif; solve minimize cost;""",
+        var int: cost; constraint cost = if b then x + 1 else 10 * x endif; solve minimize cost;""",
         7,
         lambda v: v["b"] is True and v["x"] == 6,
         goal="cost",
@@ -366,6 +372,6 @@ CASES = [
         SATISFIED,
         lambda v: v["x"] == 5 and v["y"] is None,
     ),
-    Case("constant goal", "var 0..5: x; constraint x >= 2; var int: cost = 3; solve minimize cost;", 3, goal="cost"),
+    Case("constant goal", "var 0..5: x; constraint x >= 2; var int: cost; constraint cost = 3; solve minimize cost;", 3, goal="cost"),
     Case("contradiction while compiling", "var 0..5: x; constraint x > 7;", UNSATISFIABLE),
 ]
