@@ -2,16 +2,10 @@ include "drcp_limits.mzn";
 
 % The quotient is rounded towards zero, and the rest has the sign of the dividend.
 predicate int_div(var int: dividend, var int: divisor, var int: quotient) =
-  let {
-    int: reach = max(abs(lb(dividend)), abs(ub(dividend)));
-    var -reach..reach: rest;
-  } in drcp_division(dividend, divisor, quotient, rest);
+  let { var drcp_reach(dividend): rest } in drcp_division(dividend, divisor, quotient, rest);
 
 predicate int_mod(var int: dividend, var int: divisor, var int: rest) =
-  let {
-    int: reach = max(abs(lb(dividend)), abs(ub(dividend)));
-    var -reach..reach: quotient;
-  } in drcp_division(dividend, divisor, quotient, rest);
+  let { var drcp_reach(dividend): quotient } in drcp_division(dividend, divisor, quotient, rest);
 
 predicate drcp_division(var int: dividend, var int: divisor, var int: quotient, var int: rest) =
   divisor != 0 /\
@@ -26,3 +20,7 @@ predicate drcp_smaller_size(var int: rest, var int: divisor) =
   elseif ub(divisor) < 0 then rest < -divisor /\ -rest < -divisor
   else (divisor > 0 -> rest < divisor /\ -rest < divisor) /\ (divisor < 0 -> rest < -divisor /\ -rest < -divisor)
   endif;
+
+% The numbers whose size is at most that of the number's values.
+function set of int: drcp_reach(var int: number) =
+  let { int: size = max(abs(min(drcp_hull(number))), abs(max(drcp_hull(number)))) } in -size..size;

@@ -4,10 +4,9 @@ int: drcp_product_limit = 2000;
 % How many entries a table of powers may have.
 int: drcp_power_limit = 100000;
 
-% How far from 0 a bound of a variable may lie.
-int: drcp_bound_limit = 1000000000;
-
-test drcp_is_bounded(var int: x) = has_bounds(x) /\ lb(x) >= -drcp_bound_limit /\ ub(x) <= drcp_bound_limit;
+% Up to how many tasks of one machine their order is said pair by pair, beside the native resource.
+int: drcp_pairs_limit = 60;
 
 % The values from the least to the greatest one, whether or not the domain has holes.
-function set of int: drcp_hull(var int: x) = lb(x)..ub(x);
+function set of int: drcp_hull(var int: x) =
+  assert(has_bounds(x), "drcp: a variable without bounds in a product, a quotient, a rest or a power. Give it some.", lb(x)..ub(x));

@@ -9,6 +9,7 @@ from pathlib import Path
 from typing import Callable, List, Tuple
 
 from .models import CASES, SATISFIED, UNSATISFIABLE, Case
+from .tables import TABLES, Table
 from .tools import HOME, Answer, Workshop, call, compiled, minizinc, want, want_in
 
 COMPLETE = "=========="
@@ -49,6 +50,15 @@ def optimal(case: Case, answer: Answer, values) -> None:
     side = ">=" if "minimize" in case.model else "<="
     wanted = [f"% accepted: [{name} {side} {case.outcome}]" for name in (case.goal, "drcp_goal")]
     want(answer.comments() and answer.comments()[0] in wanted, f"wanted {wanted[0]}\n{answer.text}")
+
+
+def same_solutions(table: Table) -> None:
+    """All solutions are those that the meaning has, and that there is no other is checked."""
+    answer = minizinc(table.model(), "-a", "--output-mode", "json")
+    found = sorted(tuple(int(values[name]) for name in table.ranges) for values in answer.solutions())
+    wanted = table.solutions()
+    want(found == wanted, f"too many: {sorted(set(found) - set(wanted))}, missing: {sorted(set(wanted) - set(found))}\n{answer.errors}")
+    want(len(answer.comments()) == 1, f"not checked\n{answer.text[-300:]}")
 
 
 # The flags of the two solvers.
@@ -318,4 +328,5 @@ def tests() -> List[Tuple[str, Callable[[], None]]]:
         model_that_does_not_compile, help_and_versions, missing_program, missing_compiler,
         library_is_a_line_away_from_native,
     )
-    return models + [(kind.__name__.replace("_", " "), kind) for kind in kinds]
+    tables = [(f"meaning: {table.name}", lambda table=table: same_solutions(table)) for table in TABLES]
+    return models + tables + [(kind.__name__.replace("_", " "), kind) for kind in kinds]
