@@ -5,7 +5,8 @@ from dataclasses import dataclass
 from functools import cached_property
 from typing import Dict, Iterator, List, NamedTuple, Optional, Tuple
 
-ITEM = re.compile(r'\s*((?:"(?:\\.|[^"\\\n])*"|%[^\n]*\n?|[^;"%])+;)')
+BREAK = re.compile(r'"(?:\\.|[^"\\\n])*"|%[^\n]*|;')
+LEAD = re.compile(r"(?:\s|%[^\n]*)*")
 COMMENT = re.compile(r'("(?:\\.|[^"\\\n])*")|%[^\n]*')
 SOLVE = re.compile(r"solve\b.*?\b(satisfy|minimize|maximize)\b\s*([^\s;]*)\s*;$", re.S)
 OUTPUT_VARIABLE = re.compile(r"var\b([^:]*):\s*(\w+)[^=;]*::\s*output_var\b[^=;]*(?:=\s*([^;\s]+)\s*)?;$", re.S)
@@ -55,9 +56,13 @@ class FlatModel:
 
     def items(self) -> Iterator[Tuple[int, str]]:
         """Each item with its place, comments taken out."""
-        for found in ITEM.finditer(self.text):
-            item = COMMENT.sub(lambda part: part[1] or "", found[1]).strip() if "%" in found[1] else found[1]
-            yield found.end() - len(found[1]), item
+        start = 0
+        for found in BREAK.finditer(self.text):
+            if found[0] == ";":
+                at = LEAD.match(self.text, start).end()
+                item = self.text[at : found.end()]
+                yield at, COMMENT.sub(lambda part: part[1] or "", item) if "%" in item else item
+                start = found.end()
 
     @cached_property
     def constraints(self) -> List[Tuple[int, str]]:

@@ -250,6 +250,7 @@ def read_options(words: List[str]) -> argparse.Namespace:
 
 def main(words: List[str]) -> int:
     options = read_options(words)
+    program.end_on_signals()
     try:
         with tempfile.TemporaryDirectory(prefix="drcp-") as folder:
             return getattr(Person(options, Path(folder)), options.command)()

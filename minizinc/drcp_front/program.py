@@ -2,7 +2,9 @@
 
 import os
 import shutil
+import signal
 import subprocess
+import sys
 import tempfile
 import time
 from dataclasses import dataclass
@@ -98,6 +100,12 @@ class Progress:
         self.look()
         if self.tell:
             self.tell(self.nogoods, self.bytes)
+
+
+def end_on_signals() -> None:
+    """Ends in order when it is told to end, so that a run of the program ends too."""
+    for number in (signal.SIGTERM, signal.SIGINT):
+        signal.signal(number, lambda *_: sys.exit(1))
 
 
 def run(words: List[str], clock: Clock, progress: Optional[Progress] = None, every: float = 1.0) -> Ended:

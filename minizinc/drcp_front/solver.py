@@ -12,7 +12,7 @@ from .flatzinc import COMPLETE, END_OF_SOLUTION, UNKNOWN, UNSATISFIABLE, FlatMod
 from .program import Clock, Progress, TimeUp
 from .refusals import told_log_refusal, told_model_refusal
 
-FIRST_CONFLICTS = 100
+FIRST_CONFLICTS = 1
 
 
 class Refused(Exception):
@@ -103,7 +103,7 @@ class Session:
 
     def optimize(self) -> None:
         """A best solution; where improving ones are wanted, or time is short, with more and more conflicts allowed."""
-        growing = self.options.all or self.clock.limit is not None
+        growing = self.options.all or self.options.improving or self.clock.limit is not None
         conflicts = FIRST_CONFLICTS if growing else program.MOST_CONFLICTS
         while True:
             answer = self.solve(self.model, conflicts)
@@ -185,7 +185,8 @@ def read_options(words: List[str], prove: bool) -> argparse.Namespace:
         description="Solves a compiled model with drcp" + (", and checks a proof of what is claimed" if prove else ""),
     )
     reader.add_argument("model", metavar="MODEL.fzn")
-    reader.add_argument("-a", "-i", dest="all", action="store_true", help="all solutions, or each improving one")
+    reader.add_argument("-a", dest="all", action="store_true", help="all solutions, or each improving one")
+    reader.add_argument("-i", dest="improving", action="store_true", help="each improving solution")
     reader.add_argument("-n", dest="solutions", type=int, metavar="N", help="at most N solutions; 0 is all")
     reader.add_argument("-s", dest="statistics", action="store_true", help="failures, nogoods, bytes, times")
     reader.add_argument("-t", dest="time", type=int, metavar="MS", help="end after so many milliseconds")
@@ -201,6 +202,7 @@ def read_options(words: List[str], prove: bool) -> argparse.Namespace:
 
 def main(words: List[str], prove: bool) -> int:
     options = read_options(words, prove)
+    program.end_on_signals()
     try:
         with tempfile.TemporaryDirectory(prefix="drcp-") as folder:
             Session(options, Path(folder)).run()

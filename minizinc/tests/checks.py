@@ -20,8 +20,12 @@ CLIMB = """array[1..7] of var 0..1: x; constraint sum(i in 1..7)((i + 3) * x[i])
 var int: worth; constraint worth = sum(i in 1..7)((i * i mod 7 + i) * x[i]); solve maximize worth;"""
 HARD = """array[1..9] of var 1..8: hole; constraint forall(i, j in 1..9 where i < j)(hole[i] + 0 != hole[j]);
 var int: cost = hole[1]; solve minimize cost;"""
+LONG = """include "all_different.mzn"; array[1..15] of var 1..15: p; constraint all_different(p);
+array[1..15, 1..15] of int: far = array2d(1..15, 1..15, [(i * 7 + j * 5) mod 17 | i, j in 1..15]);
+var int: cost; constraint cost = sum(i in 1..14)(far[p[i], p[i + 1]] * (1 + i mod 3)); solve minimize cost;"""
 SMALL = "var 0..3: x;\nvar 0..3: y;\nconstraint x + y <= 2;\nconstraint x + y >= 3;\n"
-CHOICE = "int: n;\nvar 1..9: x;\nconstraint x * x >= n;\nvar int: cost = 2 * x;\nsolve minimize cost;\noutput [\"x is \\(x)\\n\"];\n"
+CHOICE = """int: n; var 1..9: x; constraint x * x >= n; var int: cost = 2 * x; solve minimize cost;
+output ["x is \\(x)\\n"];"""
 
 
 def solved_and_proved(case: Case) -> None:
@@ -57,7 +61,8 @@ def same_solutions(table: Table) -> None:
     answer = minizinc(table.model(), "-a", "--output-mode", "json")
     found = sorted(tuple(int(values[name]) for name in table.ranges) for values in answer.solutions())
     wanted = table.solutions()
-    want(found == wanted, f"too many: {sorted(set(found) - set(wanted))}, missing: {sorted(set(wanted) - set(found))}\n{answer.errors}")
+    more, fewer = sorted(set(found) - set(wanted)), sorted(set(wanted) - set(found))
+    want(found == wanted, f"too many: {more}, missing: {fewer}\n{answer.errors}")
     want(len(answer.comments()) == 1, f"not checked\n{answer.text[-300:]}")
 
 
@@ -115,8 +120,17 @@ def limited_time() -> None:
     want(answer.status == 0, answer.errors)
 
 
-def limited_time_with_a_solution() -> None:
-    answer = minizinc(HARD.replace("1..8", "1..9").replace("hole[1];", "hole[1] + hole[2] * 3;"), "--time-limit", "60000")
+def limited_time_with_improving_solutions() -> None:
+    for solver in ("solve", "prove"):
+        answer = minizinc(LONG, "--time-limit", "2500", "--output-mode", "json", solver=solver)
+        costs = [v["cost"] for v in answer.solutions()]
+        want(costs and costs == sorted(set(costs), reverse=True), answer.text)
+        want(answer.status == 0 and COMPLETE not in answer.lines and not answer.comments(), answer.text + answer.errors)
+
+
+def enough_time() -> None:
+    model = HARD.replace("1..8", "1..9").replace("hole[1];", "hole[1] + hole[2] * 3;")
+    answer = minizinc(model, "--time-limit", "60000")
     want(COMPLETE in answer.lines and answer.comments() == ["% accepted: [cost >= 5]"], answer.text)
 
 
@@ -203,7 +217,8 @@ def refused_log() -> None:
     with Workshop(small_mzn=SMALL) as shop:
         want(shop.person("prove", "small.mzn").status == 0, "not proved")
         log = shop.file("small-proof/small.log")
-        log.write_text(re.sub(r"(?m)^i 1 (.*) c:(\d)", lambda found: f"i 1 {found[1]} c:{3 - int(found[2])}", log.read_text()))
+        other = lambda found: f"{found[1]} c:{3 - int(found[2])}"
+        log.write_text(re.sub(r"(?m)^(i 1 .*) c:(\d)", other, log.read_text()))
         answer = shop.person("check", "small-proof/small.fzn", "small-proof/small.log")
         want(answer.status == 1, f"status {answer.status}")
         for part in ("refused: NotImplied at line", "is the constraint item on line", "it comes from small.mzn, line"):
@@ -321,7 +336,8 @@ def tests() -> List[Tuple[str, Callable[[], None]]]:
     models = [(f"model: {case.name}", lambda case=case: solved_and_proved(case)) for case in CASES]
     kinds = (
         every_solution, some_solutions, more_solutions_than_there_are, every_solution_of_arrays,
-        every_solution_without_output, improving_solutions, statistics, limited_time, limited_time_with_a_solution,
+        every_solution_without_output, improving_solutions, statistics, limited_time,
+        limited_time_with_improving_solutions, enough_time,
         flags_without_effect, more_words, goal_of_a_sum, goal_in_an_array, float_variable, no_bounds, product_too_large,
         table_of_powers_too_large, bounds_too_wide, constraint_of_another_library, other_refusals, refused_log,
         from_a_model_to_a_proof, data_in_a_word, packed_files, one_file_named_twice, limits, satisfied_model,
