@@ -58,14 +58,15 @@ def plain_name(path: Path) -> Path:
     return path.with_suffix("") if path.suffix == ".gz" else path
 
 
-def origin_of(model: Path, constraint: int, library: Path) -> Optional[Origin]:
-    """The innermost place outside the library that a constraint, from 1, comes from, by the file of paths beside the model."""
+def origin_of(model: Path, key: str, library: Path) -> Optional[Origin]:
+    """Where a variable, by its name, or a constraint, by its number from 0, comes from: the innermost place outside the
+    library, by the file of paths beside the model."""
     paths = plain_name(model).with_suffix(".paths")
     if not paths.is_file():
         return None
     for line in paths.read_text(encoding="utf-8", errors="replace").splitlines():
         fields = line.split("\t")
-        if len(fields) == 3 and fields[0] == str(constraint - 1):
+        if len(fields) == 3 and fields[0] == key:
             return innermost(fields[2], library)
     return None
 

@@ -108,7 +108,7 @@ class FlatModel:
         return place_of(self.text.encode(), len(self.text[:at].encode())), " ".join(item.split())
 
     def with_additions(self, variables: List[str], constraints: List[str], solve: Optional[str] = None) -> "FlatModel":
-        """The model with more variables and, behind all others, more constraints, so that no constraint is renumbered."""
+        """The model with more variables, and more constraints behind all others, so that none is renumbered."""
         solve_at, solve_item = self.solve_item
         declared_at = self.constraints[0][0] if self.constraints else solve_at
         parts = [

@@ -1,4 +1,4 @@
-"""The side of a person: from a MiniZinc model to a checked proof in one command, and drcp's own commands told in words."""
+"""The side of a person: from a model to a checked proof in one command, and drcp's own commands told in words."""
 
 import argparse
 import subprocess
@@ -6,13 +6,13 @@ import sys
 import tempfile
 from dataclasses import dataclass
 from pathlib import Path
-from typing import Callable, List, Optional
+from typing import List, Optional
 
 from . import VERSION, program
 from .files import Twice, origin_of, plain_name, readable, refuse_twice, told_origin, writable
 from .flatzinc import COMPLETE, UNSATISFIABLE, FlatModel, split_answer
 from .program import Clock, Ended, Progress, TimeUp
-from .refusals import told_log_refusal, told_model_refusal
+from .refusals import Source, told_log_refusal, told_model_refusal
 from .solver import in_words
 
 HOME = Path(__file__).resolve().parents[1]
@@ -105,7 +105,7 @@ class Person:
             progress = self.progress("solving", out)
             answer = program.solve(flat, out, self.options.conflicts, self.clock, progress)
             if answer.status == program.MODEL_REFUSED:
-                raise Stopped(told_model_refusal(answer.text, read_model(flat)), program.MODEL_REFUSED)
+                raise Stopped(told_model_refusal(answer.text, read_model(flat), self.source_of(model)), answer.status)
             progress.report()
         print(in_output_words(answer.text, ozn), end="", flush=True)
         if answer.status == program.LIMIT_REACHED:
@@ -128,15 +128,15 @@ class Person:
     def refuse(self, answer: Ended, flat: Path, model: Path) -> None:
         """Ends the command where the model, the scaffold or the log was refused."""
         if answer.status == program.MODEL_REFUSED:
-            raise Stopped(told_model_refusal(answer.text, read_model(flat)), answer.status)
+            raise Stopped(told_model_refusal(answer.text, read_model(flat), self.source_of(model)), answer.status)
         if answer.status == program.REFUSED:
             raise Stopped(told_log_refusal(answer.text, read_model(flat), self.source_of(model)), answer.status)
 
-    def source_of(self, model: Path) -> Callable[[int], Optional[str]]:
-        """Tells of a constraint's number where it comes from in MiniZinc, if that is known."""
+    def source_of(self, model: Path) -> Source:
+        """Tells where a variable or a constraint of the model comes from in MiniZinc, if that is known."""
 
-        def tell(number: int) -> Optional[str]:
-            origin = origin_of(model, number, LIBRARY)
+        def tell(key: str) -> Optional[str]:
+            origin = origin_of(model, key, LIBRARY)
             return told_origin(origin) if origin else None
 
         return tell
@@ -183,7 +183,8 @@ def in_output_words(answer: str, ozn: Optional[Path]) -> str:
     if ozn is None or not ozn.exists():
         return answer
     words = ["minizinc", "--ozn-file", str(ozn)]
-    printed = subprocess.run(words, input=answer, stdout=subprocess.PIPE, stderr=subprocess.PIPE, universal_newlines=True)
+    pipes = {"stdout": subprocess.PIPE, "stderr": subprocess.PIPE, "universal_newlines": True}
+    printed = subprocess.run(words, input=answer, **pipes)
     return printed.stdout.rstrip("\n") + "\n" if printed.returncode == 0 else answer
 
 
@@ -228,7 +229,7 @@ def read_options(words: List[str]) -> argparse.Namespace:
     reader.add_argument("--version", action=ShowVersions)
     commands = reader.add_subparsers(dest="command", metavar="COMMAND", required=True)
     for name, texts, arguments in (
-        ("prove", "compiles, solves, processes and checks; keeps model, scaffold and log in a folder", ["model", "data"]),
+        ("prove", "compiles, solves, processes and checks, and keeps the files in a folder", ["model", "data"]),
         ("solve", "prints a solution of a compiled model, and writes its scaffold", ["model", "out"]),
         ("process", "makes a scaffold into a log", ["model", "scaffold", "out"]),
         ("check", "judges a log", ["model", "log"]),
@@ -240,7 +241,8 @@ def read_options(words: List[str]) -> argparse.Namespace:
         command.add_argument("-q", "--quiet", action="store_true", help="no progress on stderr")
         command.add_argument("--seconds", type=float, metavar="S", help="end after so many seconds")
         if name in ("prove", "solve"):
-            command.add_argument("--conflicts", type=conflicts, default=1_000_000, metavar="N", help="learn at most N nogoods")
+            most = {"type": conflicts, "default": 1_000_000, "metavar": "N"}
+            command.add_argument("--conflicts", help="learn at most N nogoods", **most)
         if name == "prove":
             command.add_argument("--folder", type=Path, metavar="DIR", help="where files are kept (NAME-proof)")
             command.add_argument("--gz", action="store_true", help="keep them packed")

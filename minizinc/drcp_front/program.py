@@ -74,7 +74,7 @@ def find_program() -> str:
         return found
     if os.access(BUILT, os.X_OK):
         return str(BUILT)
-    raise Missing(f"drcp is not there: build it by ./build, put it on the path, or let DRCP name it (looked for {BUILT} too)")
+    raise Missing(f"drcp is not there: build it by ./build ({BUILT}), put it on the path, or let DRCP name it")
 
 
 class Progress:

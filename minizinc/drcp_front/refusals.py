@@ -4,7 +4,10 @@ import re
 from dataclasses import dataclass
 from typing import Callable, Optional, Tuple
 
-from .flatzinc import FlatModel, place_of
+from .flatzinc import FlatModel, Place, place_of
+
+# Tells of a variable's name, or of a constraint's number from 0, where it comes from, if that is known.
+Source = Callable[[str], Optional[str]]
 
 MODEL_REFUSAL = re.compile(r"model refused: (\w+) at byte (\d+)")
 CONSTRAINT_FIELD = re.compile(r"\bc:(\d+)\b")
@@ -32,13 +35,13 @@ CONSTRUCTS = [
 
 REASONS = {
     "BadByte": "this byte begins no token of FlatZinc",
-    "Number": "this number is beyond 10^18 on one side, or has no digit",
+    "Number": "this number is beyond ±10^18, or has no digit",
     "OpenString": "this string is not closed on its line",
     "Syntax": "FlatZinc has no such word here",
     "Unknown": "this name is not declared above",
     "Declared": "this name is declared twice",
     "Kind": "this has another type or size than is wanted here",
-    "Limit": "this is beyond a limit: bounds and coefficients lie within 10^9 on both sides, other numbers within 10^18",
+    "Limit": "this is beyond a limit: bounds and coefficients lie within ±10^9, other numbers within ±10^18",
 }
 
 
@@ -54,7 +57,7 @@ class Told:
 
     def __str__(self) -> str:
         shown, shift = clipped(self.text, self.column)
-        lines = [f"{self.why} (line {self.line}, column {self.column} of the compiled model)"]
+        lines = [f"model refused: {self.why} (line {self.line}, column {self.column} of the compiled model)"]
         lines += [f"  {shown}", "  " + " " * (self.column - 1 - shift) + "^"]
         if self.instead:
             lines.append(f"instead: {self.instead}")
@@ -69,34 +72,50 @@ def clipped(line: str, column: int, width: int = 110) -> Tuple[str, int]:
     return line[shift : shift + width], shift
 
 
-def told_model_refusal(answer: str, model: FlatModel) -> str:
-    """What `drcp` said of a refused model, in words."""
+def no_source(key: str) -> Optional[str]:
+    """Where nothing is known of where a variable or a constraint comes from."""
+    return None
+
+
+def told_model_refusal(answer: str, model: FlatModel, source: Source = no_source) -> str:
+    """What `drcp` said of a refused model, in words, and where in MiniZinc it comes from, if that is known."""
     found = MODEL_REFUSAL.search(answer)
     if not found:
         return answer.strip()
     why, at = found[1], int(found[2])
     place = place_of(model.text.encode(), at)
-    rest = place.text[place.column - 1 :]
-    word = (re.match(r"\w+", rest) or [""])[0]
+    keys = [*re.findall(r"X_INTRODUCED_\d+_", place.text), constraint_key(model, at)]
+    known = [told for told in map(source, keys) if told][:1]
+    return "\n".join([str(in_words(why, model, place)), *known])
+
+
+def constraint_key(model: FlatModel, at: int) -> str:
+    """The number, from 0, of the constraint that holds this byte."""
+    before = len(model.text.encode()[:at].decode("utf-8", "replace"))
+    return str(sum(1 for start, _ in model.constraints if start <= before) - 1)
+
+
+def in_words(why: str, model: FlatModel, place: Place) -> Told:
     if why == "Unbounded":
-        return str(Told(*unbounded(model, at, place)))
+        return unbounded(place)
     if why != "Unsupported":
-        return str(Told(f"model refused: {why}: {REASONS.get(why, why)}", place.line, place.column, place.text))
+        return Told(f"{why}: {REASONS.get(why, why)}", *place)
+    word = (re.match(r"\w+", place.text[place.column - 1 :]) or [""])[0]
     reason, instead = unsupported(word, place.text)
     if instead == NO_FLOATS:
         named = first_float(model)
         reason = f"`{named[1]}` is a float" if named else "a float is not read"
         reason += "; integers and Booleans alone are read"
         place = place_of(model.text.encode(), named[0]) if named else place
-    return str(Told(f"model refused: {reason}", place.line, place.column, place.text, instead))
+    return Told(reason, *place, instead)
 
 
-def unbounded(model: FlatModel, at: int, place) -> tuple:
+def unbounded(place: Place) -> Told:
     name = (re.search(r"(\w+)[^:]*$", re.split(r"::", place.text[: place.column - 1])[0]) or ["", "?"])[1]
-    why = f"model refused: the variable `{name}` has no bounds"
+    why = f"the variable `{name}` has no bounds"
     if name.startswith("X_INTRODUCED"):
         why += ", which the compiler made for an expression whose variables have none"
-    return why, place.line, place.column, place.text, f"give it some: `var 0..1000: {name};`"
+    return Told(why, *place, f"give it some: `var 0..1000: {name};`")
 
 
 def first_float(model: FlatModel) -> Optional[Tuple[int, str]]:
@@ -122,8 +141,8 @@ def unsupported(word: str, line: str) -> tuple:
     return f"`{word}` is not read", None
 
 
-def told_log_refusal(answer: str, model: FlatModel, source: Callable[[int], Optional[str]] = lambda number: None) -> str:
-    """What `drcp` said of a refused log, with the constraint item that its line names by `c:K`, and its source if known."""
+def told_log_refusal(answer: str, model: FlatModel, source: Source = no_source) -> str:
+    """What `drcp` said of a refused log, with the constraint item that its line names by `c:K`."""
     lines = [answer.strip()]
     for number in dict.fromkeys(CONSTRAINT_FIELD.findall("\n".join(answer.splitlines()[1:]))):
         item = model.constraint(int(number))
@@ -132,6 +151,7 @@ def told_log_refusal(answer: str, model: FlatModel, source: Callable[[int], Opti
             lines.append(f"c:{number} names no constraint item: the model has {count}")
         else:
             place, text = item
-            lines.append(f"c:{number} is the constraint item on line {place.line} of the model: {clipped(text, 1, 200)[0]}")
-            lines += filter(None, [source(int(number))])
+            shown, _ = clipped(text, 1, 200)
+            lines.append(f"c:{number} is the constraint item on line {place.line} of the model: {shown}")
+            lines += filter(None, [source(str(int(number) - 1))])
     return "\n".join(lines)

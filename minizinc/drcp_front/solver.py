@@ -1,4 +1,4 @@
-"""The side of MiniZinc: solves a compiled model, and proves it where that is asked, in the way a MiniZinc solver prints."""
+"""The side of MiniZinc: solves a compiled model, and proves it where that is asked, as a solver of MiniZinc does."""
 
 import argparse
 import sys

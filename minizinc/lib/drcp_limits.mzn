@@ -9,4 +9,7 @@ int: drcp_pairs_limit = 60;
 
 % The values from the least to the greatest one, whether or not the domain has holes.
 function set of int: drcp_hull(var int: x) =
-  assert(has_bounds(x), "drcp: a variable without bounds in a product, a quotient, a rest or a power. Give it some.", lb(x)..ub(x));
+  assert(
+    has_bounds(x), "drcp: a variable without bounds in a product, a quotient, a rest or a power. Give it some.",
+    lb(x)..ub(x)
+  );

@@ -12,8 +12,8 @@ predicate int_times(var int: a, var int: b, var int: c) =
 predicate drcp_product_by_values(var int: few, var int: other, var int: product) =
   assert(
     card(drcp_hull(few)) <= drcp_product_limit,
-    "drcp: a product of two variables, neither of which has at most " ++ show(drcp_product_limit)
-      ++ " values between its bounds. Give one of them tighter bounds."
+    "drcp: a product of two variables, of " ++ show(drcp_hull(few)) ++ " and " ++ show(drcp_hull(other))
+      ++ ": neither has at most " ++ show(drcp_product_limit) ++ " values. Give one of them tighter bounds."
   ) /\
   let {
     array [drcp_hull(few)] of var int: multiples =

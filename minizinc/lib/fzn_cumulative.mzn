@@ -14,5 +14,6 @@ predicate fzn_cumulative(array[int] of var int: s, array[int] of var int: d, arr
 function var int: drcp_use_at_start(int: task, array[int] of var int: s, array[int] of var int: d,
                                     array[int] of var int: r) =
   sum(other in index_set(s))(
-    bool2int(if other = task then d[task] > 0 else s[other] <= s[task] /\ s[task] < s[other] + d[other] endif) * r[other]
+    r[other]
+      * bool2int(if other = task then d[task] > 0 else s[other] <= s[task] /\ s[task] < s[other] + d[other] endif)
   );

@@ -1,5 +1,5 @@
-% What drcp does not read natively of FlatZinc's builtins, said by what it reads. A builtin becomes native when drcp reads
-% it and its line here is removed: without a body the compiler keeps it.
+% What drcp does not read natively of FlatZinc's builtins, said by what it reads. A builtin becomes native when drcp
+% reads it and its line here is removed: without a body the compiler keeps it.
 include "drcp_product.mzn";           % int_times
 include "drcp_division.mzn";          % int_div, int_mod
 include "drcp_extremes_of_two.mzn";   % int_max, int_min

@@ -13,7 +13,7 @@ from .tables import TABLES, Table
 from .tools import HOME, Answer, Workshop, call, compiled, minizinc, want, want_in
 
 COMPLETE = "=========="
-NOT_READ = r"int_(times|div|mod|pow|pow_fixed|max|min|abs)|array_int_(maximum|minimum)|bool_lin_\w+|array_bool_xor|\w+_imp"
+NOT_READ = r"int_(times|div|mod|pow\w*|max|min|abs)|array_int_m\w+|bool_lin_\w+|array_bool_xor|\w+_imp"
 
 PAIRS = "var 0..2: x; var 0..2: y; constraint x < y; var bool: b; constraint b <-> x = 1;"
 CLIMB = """array[1..7] of var 0..1: x; constraint sum(i in 1..7)((i + 3) * x[i]) <= 24;
@@ -178,7 +178,8 @@ def no_bounds() -> None:
 
 
 def product_too_large() -> None:
-    refused("var 0..99999: x; var 0..88888: y; constraint x * y = 777777;", "drcp: a product of two variables")
+    model = "var 0..99999: x; var 0..88888: y; constraint x * y = 777777;"
+    refused(model, "drcp: a product of two variables, of 0..88888 and 0..99999: neither has at most 2000 values")
 
 
 def table_of_powers_too_large() -> None:
@@ -193,7 +194,8 @@ def constraint_of_another_library() -> None:
     with Workshop(m_fzn="var 0..3: x;\nconstraint int_times(x,x,x);\nsolve satisfy;\n") as shop:
         answer = shop.person("solve", "m.fzn", "out")
         want(answer.status == 3, f"status {answer.status}")
-        for part in ("the product `x * y`", "(line 2, column 12 of", "constraint int_times(x,x,x);", "instead: compile with"):
+        item = "constraint int_times(x,x,x);"
+        for part in ("the product `x * y`", "(line 2, column 12 of", item, "instead: compile with"):
             want_in(part, answer.errors)
 
 
@@ -211,6 +213,14 @@ def other_refusals() -> None:
     ):
         with Workshop(m_fzn=text) as shop:
             want_in(part, shop.person("solve", "m.fzn", "out").errors)
+
+
+def float_without_a_name() -> None:
+    with Workshop(m_mzn="var 1..9: x;\nconstraint sqrt(x) > 2.0;\n") as shop:
+        answer = shop.person("prove", "m.mzn")
+        want(answer.status == 3, f"status {answer.status}")
+        want_in("a float is not read", answer.errors)
+        want_in("it comes from m.mzn, line 2, column 17: x", answer.errors)
 
 
 def refused_log() -> None:
@@ -240,6 +250,16 @@ def from_a_model_to_a_proof() -> None:
         want(again.text == "accepted: [cost >= 12]\n", again.text)
 
 
+def the_example() -> None:
+    """The two commands of the documents."""
+    with Workshop() as shop:
+        solved = call(["minizinc", "--solver", "drcp-prove", str(HOME / "example.mzn")], shop.folder)
+        proved = shop.person("prove", str(HOME / "example.mzn"))
+        lines = ["x = 4;", "y = 6;", "cost = 10;", "----------", COMPLETE]
+        want(solved.lines == lines + ["% accepted: [cost >= 10]"], solved.text + solved.errors)
+        want(proved.lines == lines + ["accepted: [cost >= 10]"], proved.text + proved.errors)
+
+
 def data_in_a_word() -> None:
     with Workshop(choice_mzn=CHOICE) as shop:
         answer = shop.person("prove", "-q", "--folder", "kept", "choice.mzn", "-D", "n=50")
@@ -262,7 +282,8 @@ def one_file_named_twice() -> None:
     with Workshop(small_mzn=SMALL) as shop:
         shop.person("prove", "small.mzn", "--folder", ".")
         before = shop.file("small.fzn").read_text()
-        for words in ("prove small.fzn --folder .", "solve small.fzn ./small.fzn", "process small.fzn small.log small.log"):
+        twice = ("prove small.fzn --folder .", "solve small.fzn ./small.fzn", "process small.fzn small.log small.log")
+        for words in twice:
             answer = shop.person(*words.split())
             want(answer.status == 1, f"status {answer.status} of {words}")
             want_in("are one file", answer.errors)
@@ -339,7 +360,8 @@ def tests() -> List[Tuple[str, Callable[[], None]]]:
         every_solution_without_output, improving_solutions, statistics, limited_time,
         limited_time_with_improving_solutions, enough_time,
         flags_without_effect, more_words, goal_of_a_sum, goal_in_an_array, float_variable, no_bounds, product_too_large,
-        table_of_powers_too_large, bounds_too_wide, constraint_of_another_library, other_refusals, refused_log,
+        table_of_powers_too_large, bounds_too_wide, constraint_of_another_library, other_refusals,
+        float_without_a_name, refused_log, the_example,
         from_a_model_to_a_proof, data_in_a_word, packed_files, one_file_named_twice, limits, satisfied_model,
         model_that_does_not_compile, help_and_versions, missing_program, missing_compiler,
         library_is_a_line_away_from_native,

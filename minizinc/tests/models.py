@@ -1,4 +1,4 @@
-"""Small models with their outcomes, found by hand, and what a solution has to meet, evaluated here and not by MiniZinc."""
+"""Small models with their outcomes, found by hand, and what a solution has to meet, evaluated here."""
 
 from dataclasses import dataclass
 from itertools import combinations
@@ -122,7 +122,8 @@ CASES = [
         "cumulative with variable durations and uses",
         """include "cumulative.mzn"; array[1..2] of var 0..3: s; array[1..2] of var 1..3: d; array[1..2] of var 1..2: r;
         constraint cumulative(s, d, r, 2); constraint sum(d) = 5; constraint r[1] + r[2] = 3;
-        constraint s[1] + d[1] <= 6 /\\ s[2] + d[2] <= 6; var int: end; constraint end = max(s[1] + d[1], s[2] + d[2]); solve minimize end;""",
+        constraint s[1] + d[1] <= 6 /\\ s[2] + d[2] <= 6; var int: end;
+        constraint end = max(s[1] + d[1], s[2] + d[2]); solve minimize end;""",
         5,
         lambda v: peak(list(zip(v["s"], v["d"], v["r"]))) <= 2 and sum(v["d"]) == 5 and sum(v["r"]) == 3,
         goal="end",
@@ -163,7 +164,8 @@ CASES = [
     ),
     Case(
         "knapsack",
-        """array[1..4] of var bool: take; array[1..4] of int: worth = [10,7,6,4]; array[1..4] of int: weight = [6,4,4,2];
+        """array[1..4] of var bool: take;
+        array[1..4] of int: worth = [10,7,6,4]; array[1..4] of int: weight = [6,4,4,2];
         constraint sum(i in 1..4)(weight[i] * take[i]) <= 10;
         var int: total; constraint total = sum(i in 1..4)(worth[i] * take[i]); solve maximize total;""",
         17,
@@ -193,7 +195,8 @@ CASES = [
     ),
     Case(
         "product",
-        "var 1..30: x; var 1..30: y; constraint x * y = 24 /\\ x < y; var int: cost; constraint cost = x + y; solve minimize cost;",
+        """var 1..30: x; var 1..30: y; constraint x * y = 24 /\\ x < y;
+        var int: cost; constraint cost = x + y; solve minimize cost;""",
         10,
         lambda v: (v["x"], v["y"]) == (4, 6),
         goal="cost",
@@ -222,7 +225,8 @@ CASES = [
     ),
     Case(
         "absolute value",
-        "var -9..9: x; var -9..9: y; constraint abs(x) = 6 /\\ abs(y - x) >= 13; var int: cost; constraint cost = y; solve maximize cost;",
+        """var -9..9: x; var -9..9: y; constraint abs(x) = 6 /\\ abs(y - x) >= 13;
+        var int: cost; constraint cost = y; solve maximize cost;""",
         9,
         lambda v: abs(v["x"]) == 6 and abs(v["y"] - v["x"]) >= 13,
         goal="cost",
@@ -248,7 +252,8 @@ CASES = [
     ),
     Case(
         "variable power",
-        "var 2..4: b; var 0..6: e; var int: p; constraint p = pow(b, e); constraint p < 100 /\\ e > b; solve maximize p;",
+        """var 2..4: b; var 0..6: e; var int: p; constraint p = pow(b, e);
+        constraint p < 100 /\\ e > b; solve maximize p;""",
         81,
         lambda v: v["b"] ** v["e"] == v["p"] and v["e"] > v["b"],
         goal="p",
@@ -311,7 +316,8 @@ CASES = [
     ),
     Case(
         "global cardinality",
-        """include "global_cardinality.mzn"; array[1..5] of var 1..3: x; constraint global_cardinality(x, [1,2,3], [1,3,1]);
+        """include "global_cardinality.mzn"; array[1..5] of var 1..3: x;
+        constraint global_cardinality(x, [1,2,3], [1,3,1]);
         constraint x[1] = 3 /\\ x[5] = 1;""",
         SATISFIED,
         lambda v: v["x"] == [3, 2, 2, 2, 1],
@@ -339,7 +345,8 @@ CASES = [
     Case(
         "boxes side by side",
         """include "globals.mzn"; array[1..3] of var 0..3: x; array[1..3] of var 0..1: y;
-        constraint diffn(x, y, [2,2,1], [2,1,1]); constraint forall(i in 1..3)(x[i] + [2,2,1][i] <= 4 /\\ y[i] + [2,1,1][i] <= 2);""",
+        constraint diffn(x, y, [2,2,1], [2,1,1]);
+        constraint forall(i in 1..3)(x[i] + [2,2,1][i] <= 4 /\\ y[i] + [2,1,1][i] <= 2);""",
         SATISFIED,
         lambda v: v["y"][0] == 0 and v["x"][0] in (0, 2) and v["y"][1] != v["y"][2],
     ),
@@ -360,7 +367,8 @@ CASES = [
     ),
     Case(
         "enumerations and holes",
-        """enum Colour = {Red, Green, Blue}; array[1..3] of var Colour: c; var {1, 4, 9}: x; constraint c[1] < c[2] /\\ c[2] != c[3];
+        """enum Colour = {Red, Green, Blue}; array[1..3] of var Colour: c; var {1, 4, 9}: x;
+        constraint c[1] < c[2] /\\ c[2] != c[3];
         constraint c[3] > c[2] /\\ x > 1 /\\ x != 9;""",
         SATISFIED,
         lambda v: v["x"] == 4 and [c["e"] for c in v["c"]] == ["Red", "Green", "Blue"],
@@ -372,6 +380,11 @@ CASES = [
         SATISFIED,
         lambda v: v["x"] == 5 and v["y"] is None,
     ),
-    Case("constant goal", "var 0..5: x; constraint x >= 2; var int: cost; constraint cost = 3; solve minimize cost;", 3, goal="cost"),
+    Case(
+        "constant goal",
+        "var 0..5: x; constraint x >= 2; var int: cost; constraint cost = 3; solve minimize cost;",
+        3,
+        goal="cost",
+    ),
     Case("contradiction while compiling", "var 0..5: x; constraint x > 7;", UNSATISFIABLE),
 ]

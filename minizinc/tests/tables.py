@@ -18,7 +18,8 @@ class Table:
     booleans: Tuple[str, ...] = ()
 
     def model(self) -> str:
-        kinds = {name: "bool" if name in self.booleans else f"{low}..{high}" for name, (low, high) in self.ranges.items()}
+        kinds = {name: f"{low}..{high}" for name, (low, high) in self.ranges.items()}
+        kinds.update(dict.fromkeys(self.booleans, "bool"))
         declared = " ".join(f"var {kind}: {name};" for name, kind in kinds.items())
         return f'include "globals.mzn"; {declared} constraint {self.constraint};'
 

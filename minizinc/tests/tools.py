@@ -47,9 +47,8 @@ class Answer:
 
 def call(words: List[str], folder: Path, environment: Optional[Dict[str, str]] = None) -> Answer:
     surroundings = {**os.environ, "MZN_SOLVER_PATH": str(HOME), **(environment or {})}
-    ended = subprocess.run(
-        words, cwd=folder, env=surroundings, stdout=subprocess.PIPE, stderr=subprocess.PIPE, universal_newlines=True, timeout=120
-    )
+    pipes = {"stdout": subprocess.PIPE, "stderr": subprocess.PIPE, "universal_newlines": True}
+    ended = subprocess.run(words, cwd=folder, env=surroundings, timeout=120, **pipes)
     return Answer(ended.returncode, ended.stdout, ended.stderr)
 
 
@@ -66,7 +65,8 @@ def compiled(model: str) -> str:
     with tempfile.TemporaryDirectory() as folder:
         file, flat = Path(folder) / "model.mzn", Path(folder) / "model.fzn"
         file.write_text(model)
-        call(["minizinc", "-c", "--solver", "org.drcp.solve", "--fzn", str(flat), "--no-output-ozn", str(file)], Path(folder))
+        words = ["minizinc", "-c", "--solver", "org.drcp.solve", "--fzn", str(flat), "--no-output-ozn", str(file)]
+        call(words, Path(folder))
         return flat.read_text()
 
 
