@@ -2,6 +2,7 @@
 
 import gzip
 import shutil
+import tempfile
 from contextlib import contextmanager
 from pathlib import Path
 from typing import Iterator, List, Optional, Tuple
@@ -28,7 +29,7 @@ def readable(path: Path, folder: Path) -> Iterator[Path]:
     if path.suffix != ".gz":
         yield path
         return
-    unpacked = folder / f"in-{path.stem}"
+    unpacked = Path(tempfile.mkdtemp(dir=folder)) / path.stem
     with gzip.open(path, "rb") as packed, unpacked.open("wb") as plain:
         shutil.copyfileobj(packed, plain)
     yield unpacked
@@ -41,7 +42,7 @@ def writable(path: Path, folder: Path) -> Iterator[Path]:
     if path.suffix != ".gz":
         yield path
         return
-    plain = folder / f"out-{path.stem}"
+    plain = Path(tempfile.mkdtemp(dir=folder)) / path.stem
     yield plain
     if plain.exists():
         pack(plain, path)

@@ -3,6 +3,7 @@
 import re
 from dataclasses import dataclass
 from functools import cached_property
+from pathlib import Path
 from typing import Dict, Iterator, List, NamedTuple, Optional, Tuple
 
 BREAK = re.compile(r'"(?:\\.|[^"\\\n])*"|%[^\n]*|;')
@@ -53,6 +54,28 @@ class FlatModel:
 
     def __init__(self, text: str):
         self.text = text
+
+    @classmethod
+    def read(cls, file: Path) -> "FlatModel":
+        return cls(file.read_bytes().decode("utf-8", "surrogateescape"))
+
+    def write(self, file: Path) -> None:
+        file.write_bytes(self.encoded)
+
+    @cached_property
+    def encoded(self) -> bytes:
+        return self.text.encode("utf-8", "surrogateescape")
+
+    def byte_of(self, at: int) -> int:
+        """The byte at which this character lies."""
+        return len(self.text[:at].encode("utf-8", "surrogateescape"))
+
+    def character_of(self, byte: int) -> int:
+        """The character in which this byte lies."""
+        return len(self.encoded[:byte].decode("utf-8", "surrogateescape"))
+
+    def place(self, byte: int) -> Place:
+        return place_of(self.encoded, byte)
 
     def items(self) -> Iterator[Tuple[int, str]]:
         """Each item with its place, comments taken out."""
@@ -105,7 +128,7 @@ class FlatModel:
         if not 1 <= number <= len(self.constraints):
             return None
         at, item = self.constraints[number - 1]
-        return place_of(self.text.encode(), len(self.text[:at].encode())), " ".join(item.split())
+        return self.place(self.byte_of(at)), " ".join(item.split())
 
     def with_additions(self, variables: List[str], constraints: List[str], solve: Optional[str] = None) -> "FlatModel":
         """The model with more variables, and more constraints behind all others, so that none is renumbered."""

@@ -4,6 +4,7 @@ import argparse
 import subprocess
 import sys
 import tempfile
+from contextlib import ExitStack
 from dataclasses import dataclass
 from pathlib import Path
 from typing import List, Optional
@@ -11,7 +12,7 @@ from typing import List, Optional
 from . import VERSION, program
 from .files import Twice, origin_of, plain_name, readable, refuse_twice, told_origin, writable
 from .flatzinc import COMPLETE, UNSATISFIABLE, FlatModel, split_answer
-from .program import Clock, Ended, Progress, TimeUp
+from .program import Clock, Ended, Patience, Progress, TimeUp
 from .refusals import Source, told_log_refusal, told_model_refusal
 from .solver import in_words
 
@@ -77,27 +78,25 @@ class Person:
         """Writes the compiled model, its goal made a variable, and answers the file that says how to print."""
         if plain_name(source).suffix == ".fzn":
             with readable(source, self.folder) as plain:
-                self.write_model(FlatModel(plain.read_text(encoding="utf-8")), target)
+                self.write_model(plain, target)
             return None
         base = plain_name(target)
         ozn, flat = base.with_suffix(".ozn"), self.folder / "compiled.fzn"
-        words = ["minizinc", "-c", "--solver", str(SOLVER), "--fzn", str(flat), "--ozn", str(ozn)]
-        words += ["--output-paths-to-file", str(base.with_suffix(".paths")), str(source), *map(str, data)]
+        words = ["--fzn", str(flat), "--ozn", str(ozn), "--output-paths-to-file", str(base.with_suffix(".paths"))]
         words += [word for setting in self.options.set for word in ("-D", setting)]
-        try:
-            compiled = subprocess.run(words, stdout=subprocess.PIPE, stderr=subprocess.STDOUT, universal_newlines=True)
-        except FileNotFoundError:
-            raise Stopped("minizinc is not on the path; a compiled model, NAME.fzn, is taken without it")
-        if compiled.returncode != 0 or not flat.exists():
-            raise Stopped(f"minizinc does not compile the model:\n{compiled.stdout.strip()}")
-        if compiled.stdout.strip():
-            self.tell(compiled.stdout.strip())
-        self.write_model(FlatModel(flat.read_text(encoding="utf-8")), target)
+        with ExitStack() as unpacked:
+            words += [str(unpacked.enter_context(readable(path, self.folder))) for path in [source, *data]]
+            told = compiler_says(["-I", str(source.parent), *words])
+        if not flat.exists():
+            raise Stopped(f"minizinc does not compile the model:\n{told}")
+        if told:
+            self.tell(told)
+        self.write_model(flat, target)
         return ozn
 
-    def write_model(self, model: FlatModel, target: Path) -> None:
+    def write_model(self, flat: Path, target: Path) -> None:
         with writable(target, self.folder) as plain:
-            plain.write_text(model.with_variable_goal().text, encoding="utf-8")
+            FlatModel.read(flat).with_variable_goal().write(plain)
 
     def solve_model(self, model: Path, scaffold: Path, ozn: Optional[Path]) -> List[str]:
         """Solves, prints the solution in the model's own words, and answers the marks."""
@@ -105,7 +104,7 @@ class Person:
             progress = self.progress("solving", out)
             answer = program.solve(flat, out, self.options.conflicts, self.clock, progress)
             if answer.status == program.MODEL_REFUSED:
-                raise Stopped(told_model_refusal(answer.text, read_model(flat), self.source_of(model)), answer.status)
+                raise Stopped(told_model_refusal(answer.text, FlatModel.read(flat), self.source_of(model)), answer.status)
             progress.report()
         print(in_output_words(answer.text, ozn), end="", flush=True)
         if answer.status == program.LIMIT_REACHED:
@@ -115,22 +114,22 @@ class Person:
     def process_scaffold(self, model: Path, scaffold: Path, log: Path) -> None:
         with readable(model, self.folder) as flat, readable(scaffold, self.folder) as taken:
             with writable(log, self.folder) as out:
-                answer = program.process(flat, taken, out, self.clock, self.progress("processing", out))
+                answer = program.process(flat, taken, out, self.clock, self.patience("processing", taken))
             self.refuse(answer, flat, model)
         self.tell(answer.text.strip())
 
     def check_log(self, model: Path, log: Path) -> None:
         with readable(model, self.folder) as flat, readable(log, self.folder) as taken:
-            answer = program.check(flat, taken, self.clock, self.progress("checking", taken))
+            answer = program.check(flat, taken, self.clock, self.patience("checking", taken))
             self.refuse(answer, flat, model)
-            print(in_words(answer.text.strip(), read_model(flat)), flush=True)
+            print(in_words(answer.text.strip(), FlatModel.read(flat)), flush=True)
 
     def refuse(self, answer: Ended, flat: Path, model: Path) -> None:
         """Ends the command where the model, the scaffold or the log was refused."""
         if answer.status == program.MODEL_REFUSED:
-            raise Stopped(told_model_refusal(answer.text, read_model(flat), self.source_of(model)), answer.status)
+            raise Stopped(told_model_refusal(answer.text, FlatModel.read(flat), self.source_of(model)), answer.status)
         if answer.status == program.REFUSED:
-            raise Stopped(told_log_refusal(answer.text, read_model(flat), self.source_of(model)), answer.status)
+            raise Stopped(told_log_refusal(answer.text, FlatModel.read(flat), self.source_of(model)), answer.status)
 
     def source_of(self, model: Path) -> Source:
         """Tells where a variable or a constraint of the model comes from in MiniZinc, if that is known."""
@@ -148,6 +147,11 @@ class Person:
             self.tell(f"{doing}: {nogoods} nogoods, {size} bytes so far, {self.clock.elapsed():.0f} s")
 
         return Progress(file, tell)
+
+    def patience(self, doing: str, file: Path) -> Patience:
+        """Tells on stderr how long a file is worked on."""
+        size = file.stat().st_size if file.exists() else 0
+        return Patience(lambda: self.tell(f"{doing} {size} bytes: {self.clock.elapsed():.0f} s"))
 
     def tell(self, words: str) -> None:
         if not self.options.quiet:
@@ -174,8 +178,14 @@ class Person:
         refuse_twice([(name.upper(), getattr(self.options, name)) for name in names])
 
 
-def read_model(file: Path) -> FlatModel:
-    return FlatModel(file.read_text(encoding="utf-8", errors="replace"))
+def compiler_says(words: List[str]) -> str:
+    """Compiles for drcp; what MiniZinc says meanwhile."""
+    words = ["minizinc", "-c", "--solver", str(SOLVER), *words]
+    try:
+        compiled = subprocess.run(words, stdout=subprocess.PIPE, stderr=subprocess.STDOUT, universal_newlines=True)
+    except FileNotFoundError:
+        raise Stopped("minizinc is not on the path; a compiled model, NAME.fzn, is taken without it")
+    return compiled.stdout.strip()
 
 
 def in_output_words(answer: str, ozn: Optional[Path]) -> str:

@@ -9,7 +9,7 @@ import tempfile
 import time
 from dataclasses import dataclass
 from pathlib import Path
-from typing import Callable, List, Optional
+from typing import Callable, List, Optional, Union
 
 BUILT = Path(__file__).resolve().parents[2] / "crates/drcp/out/drcp"
 MOST_CONFLICTS = 4_000_000_000
@@ -102,13 +102,23 @@ class Progress:
             self.tell(self.nogoods, self.bytes)
 
 
+@dataclass
+class Patience:
+    """Tells again and again that a run is still going on."""
+
+    report: Callable[[], None]
+
+
+Reporter = Union[Progress, Patience]
+
+
 def end_on_signals() -> None:
     """Ends in order when it is told to end, so that a run of the program ends too."""
     for number in (signal.SIGTERM, signal.SIGINT):
         signal.signal(number, lambda *_: sys.exit(1))
 
 
-def run(words: List[str], clock: Clock, progress: Optional[Progress] = None, every: float = 1.0) -> Ended:
+def run(words: List[str], clock: Clock, progress: Optional[Reporter] = None, every: float = 1.0) -> Ended:
     """Runs the program with these words until it ends, or until the time is up."""
     begun = time.monotonic()
     with tempfile.TemporaryFile() as answer:
@@ -128,7 +138,7 @@ def run(words: List[str], clock: Clock, progress: Optional[Progress] = None, eve
     return ended
 
 
-def wait_for(child: subprocess.Popen, clock: Clock, progress: Optional[Progress], every: float) -> None:
+def wait_for(child: subprocess.Popen, clock: Clock, progress: Optional[Reporter], every: float) -> None:
     while True:
         if clock.is_up():
             raise TimeUp()
@@ -145,9 +155,9 @@ def solve(model: Path, scaffold: Path, conflicts: int, clock: Clock, progress: O
     return run(["solve", str(model), str(scaffold), "--conflicts", str(conflicts)], clock, progress)
 
 
-def process(model: Path, scaffold: Path, log: Path, clock: Clock, progress: Optional[Progress] = None) -> Ended:
+def process(model: Path, scaffold: Path, log: Path, clock: Clock, progress: Optional[Reporter] = None) -> Ended:
     return run(["process", str(model), str(scaffold), str(log)], clock, progress)
 
 
-def check(model: Path, log: Path, clock: Clock, progress: Optional[Progress] = None) -> Ended:
+def check(model: Path, log: Path, clock: Clock, progress: Optional[Reporter] = None) -> Ended:
     return run(["check", str(model), str(log)], clock, progress)

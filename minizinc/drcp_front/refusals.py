@@ -4,7 +4,7 @@ import re
 from dataclasses import dataclass
 from typing import Callable, Optional, Tuple
 
-from .flatzinc import FlatModel, Place, place_of
+from .flatzinc import FlatModel, Place
 
 # Tells of a variable's name, or of a constraint's number from 0, where it comes from, if that is known.
 Source = Callable[[str], Optional[str]]
@@ -83,19 +83,19 @@ def told_model_refusal(answer: str, model: FlatModel, source: Source = no_source
     if not found:
         return answer.strip()
     why, at = found[1], int(found[2])
-    place = place_of(model.text.encode(), at)
+    place = model.place(at)
     keys = [*re.findall(r"X_INTRODUCED_\d+_", place.text), constraint_key(model, at)]
     known = [told for told in map(source, keys) if told][:1]
-    return "\n".join([str(in_words(why, model, place)), *known])
+    return "\n".join([str(told_in_words(why, model, place)), *known])
 
 
 def constraint_key(model: FlatModel, at: int) -> str:
     """The number, from 0, of the constraint that holds this byte."""
-    before = len(model.text.encode()[:at].decode("utf-8", "replace"))
-    return str(sum(1 for start, _ in model.constraints if start <= before) - 1)
+    character = model.character_of(at)
+    return str(sum(1 for start, _ in model.constraints if start <= character) - 1)
 
 
-def in_words(why: str, model: FlatModel, place: Place) -> Told:
+def told_in_words(why: str, model: FlatModel, place: Place) -> Told:
     if why == "Unbounded":
         return unbounded(place)
     if why != "Unsupported":
@@ -106,7 +106,7 @@ def in_words(why: str, model: FlatModel, place: Place) -> Told:
         named = first_float(model)
         reason = f"`{named[1]}` is a float" if named else "a float is not read"
         reason += "; integers and Booleans alone are read"
-        place = place_of(model.text.encode(), named[0]) if named else place
+        place = model.place(named[0]) if named else place
     return Told(reason, *place, instead)
 
 
@@ -123,7 +123,7 @@ def first_float(model: FlatModel) -> Optional[Tuple[int, str]]:
     for at, item in model.items():
         found = FLOAT_ITEM.match(item)
         if found and not found[1].startswith("X_INTRODUCED"):
-            return len(model.text[:at].encode()), found[1]
+            return model.byte_of(at), found[1]
     return None
 
 

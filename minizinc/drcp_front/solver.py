@@ -59,7 +59,7 @@ class Session:
         self.options, self.folder = options, folder
         self.clock = Clock.begin(options.time / 1000 if options.time else None)
         self.figures = Figures()
-        self.model = FlatModel(Path(options.model).read_text(encoding="utf-8")).with_variable_goal()
+        self.model = FlatModel.read(Path(options.model)).with_variable_goal()
         self.last: Optional[Solution] = None
         self.complete = False
 
@@ -121,7 +121,7 @@ class Session:
 
     def solve(self, model: FlatModel, conflicts: int) -> program.Ended:
         file, scaffold = self.folder / "model.fzn", self.folder / "scaffold"
-        file.write_text(model.text, encoding="utf-8")
+        model.write(file)
         answer = program.solve(file, scaffold, conflicts, self.clock)
         if answer.status == program.MODEL_REFUSED:
             raise Refused(told_model_refusal(answer.text, model))

@@ -276,6 +276,11 @@ def packed_files() -> None:
         want(shop.person("process", model, scaffold, "new.log.gz").status == 0, "not processed")
         want(gzip.open(shop.file("new.log.gz")).read() == gzip.open(shop.file(log)).read(), "another log")
         want_in("UNSATISFIABLE", shop.person("solve", model, "new.scaffold.gz").text)
+        for name, text in (("choice.mzn.gz", CHOICE), ("data.dzn.gz", "n = 50;")):
+            with gzip.open(shop.file(name), "wt") as packed:
+                packed.write(text)
+        answer = shop.person("prove", "choice.mzn.gz", "data.dzn.gz")
+        want(answer.lines and answer.lines[-1] == "accepted: [cost >= 16]", answer.text + answer.errors)
 
 
 def one_file_named_twice() -> None:
@@ -305,6 +310,12 @@ def satisfied_model() -> None:
         answer = shop.person("prove", "m.mzn")
         want(answer.status == 0 and answer.lines == ["x = 3;", "----------"], answer.text + answer.errors)
         want_in("claims nothing", answer.errors)
+
+
+def contradiction_while_compiling() -> None:
+    with Workshop(m_mzn="var 0..5: x; constraint x > 7;") as shop:
+        answer = shop.person("prove", "m.mzn")
+        want(answer.status == 0 and answer.lines[-1:] == ["accepted: UNSAT"], answer.text + answer.errors)
 
 
 def model_that_does_not_compile() -> None:
@@ -363,7 +374,7 @@ def tests() -> List[Tuple[str, Callable[[], None]]]:
         table_of_powers_too_large, bounds_too_wide, constraint_of_another_library, other_refusals,
         float_without_a_name, refused_log, the_example,
         from_a_model_to_a_proof, data_in_a_word, packed_files, one_file_named_twice, limits, satisfied_model,
-        model_that_does_not_compile, help_and_versions, missing_program, missing_compiler,
+        contradiction_while_compiling, model_that_does_not_compile, help_and_versions, missing_program, missing_compiler,
         library_is_a_line_away_from_native,
     )
     tables = [(f"meaning: {table.name}", lambda table=table: same_solutions(table)) for table in TABLES]
