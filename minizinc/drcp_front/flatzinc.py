@@ -205,10 +205,16 @@ class FlatModel:
             return []
         words = re.findall(r"-?\w+", equation[2])
         if equation[1] == "int_lin_eq":
+            words = self.coefficients(words[0]) + words[1:] if words[0].startswith("X_") else words
             if words[:2] not in (["1", "-1"], ["-1", "1"]) or words[4:5] != ["0"]:
                 return []
             words = words[2:]
         return words[:2] if name in words[:2] else []
+
+    def coefficients(self, name: str) -> List[str]:
+        """The elements of an array of constants that the compiler named."""
+        found = re.search(rf"array[^:;]*of int\s*:\s*{name}\b[^=;]*=\s*\[([^\]]*)\]", self.text)
+        return re.findall(r"-?\w+", found[1]) if found else []
 
 
 def named_elements(name: str, ranges: str, elements: str) -> List[Tuple[str, str]]:

@@ -108,7 +108,7 @@ class Person:
             progress.report()
         print(in_output_words(answer.text, ozn), end="", flush=True)
         if answer.status == program.LIMIT_REACHED:
-            raise Stopped(f"{self.options.conflicts} conflicts did not settle it (--conflicts)", program.LIMIT_REACHED)
+            raise Stopped(f"{self.options.conflicts} conflicts did not settle it", program.LIMIT_REACHED)
         return split_answer(answer.text)[1]
 
     def process_scaffold(self, model: Path, scaffold: Path, log: Path) -> None:

@@ -18,7 +18,14 @@ predicate drcp_product_by_values(var int: few, var int: other, var int: product)
   let {
     array [drcp_hull(few)] of var int: multiples =
       array1d(drcp_hull(few), [drcp_multiple(other, value, value in dom(few)) | value in drcp_hull(few)]);
-  } in multiples[few] = product;
+  } in multiples[few] = product /\ drcp_between_multiples(few, other, product);
+
+% Where the sign of `other` is known, bounds on the product cut it too.
+predicate drcp_between_multiples(var int: few, var int: other, var int: product) =
+  if lb(other) >= 0 then lb(few) * other <= product /\ product <= ub(few) * other
+  elseif ub(other) <= 0 then ub(few) * other <= product /\ product <= lb(few) * other
+  else true
+  endif;
 
 % value * other; 0 for a value that is not taken.
 function var int: drcp_multiple(var int: other, int: value, bool: taken) =

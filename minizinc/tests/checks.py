@@ -28,6 +28,15 @@ CHOICE = """int: n; var 1..9: x; constraint x * x >= n; var int: cost = 2 * x; s
 output ["x is \\(x)\\n"];"""
 
 
+TESTS: List[Callable[[], None]] = []
+
+
+def test(check: Callable[[], None]) -> Callable[[], None]:
+    """Marks what is called as a test."""
+    TESTS.append(check)
+    return check
+
+
 def solved_and_proved(case: Case) -> None:
     """The outcome is the known one, the solution is valid, the claim is checked, and globals stay native."""
     answer = minizinc(case.model, "--output-mode", "json")
@@ -69,6 +78,7 @@ def same_solutions(table: Table) -> None:
 # The flags of the two solvers.
 
 
+@test
 def every_solution() -> None:
     answer = minizinc(PAIRS, "-a", "--output-mode", "json")
     found = {(v["x"], v["y"], v["b"]) for v in answer.solutions()}
@@ -77,26 +87,31 @@ def every_solution() -> None:
     want(answer.comments() == ["% accepted: UNSAT of the model without the 3 printed solutions"], answer.text)
 
 
+@test
 def some_solutions() -> None:
     answer = minizinc(PAIRS, "-n", "2", "--output-mode", "json")
     want(len(answer.solutions()) == 2 and COMPLETE not in answer.lines and not answer.comments(), answer.text)
 
 
+@test
 def more_solutions_than_there_are() -> None:
     answer = minizinc(PAIRS, "-n", "7", "--output-mode", "json", solver="solve")
     want(len(answer.solutions()) == 3 and COMPLETE in answer.lines and not answer.comments(), answer.text)
 
 
+@test
 def every_solution_of_arrays() -> None:
     answer = minizinc("array[1..2, 1..2] of var 1..2: m; constraint m[1,1] < m[1,2] /\\ m[2,1] <= m[2,2];", "-a")
     want(answer.text.count("----------") == 3 and COMPLETE in answer.lines, answer.text)
 
 
+@test
 def every_solution_without_output() -> None:
     answer = minizinc('var 0..5: x; output ["some\\n"];', "-a")
     want(answer.text.count("----------") == 1 and COMPLETE in answer.lines, answer.text)
 
 
+@test
 def improving_solutions() -> None:
     answer = minizinc(CLIMB, "-a", "--output-mode", "json")
     worths = [v["worth"] for v in answer.solutions()]
@@ -106,6 +121,7 @@ def improving_solutions() -> None:
     want([v["worth"] for v in last] == worths[-1:], f"{last} against {worths}")
 
 
+@test
 def statistics() -> None:
     told = minizinc(CLIMB, "-s").figures()
     wanted = "failures nogoods runs solutions scaffoldBytes solveTime nogoodsKept steps logBytes processTime checkTime"
@@ -114,12 +130,14 @@ def statistics() -> None:
     want("logBytes" not in minizinc(CLIMB, "-s", solver="solve").figures(), "solve writes no log")
 
 
+@test
 def limited_time() -> None:
     answer = minizinc(HARD.replace("9", "12").replace("8", "11"), "--time-limit", "1500")
     want_in("=====UNKNOWN=====", answer.text)
     want(answer.status == 0, answer.errors)
 
 
+@test
 def limited_time_with_improving_solutions() -> None:
     for solver in ("solve", "prove"):
         answer = minizinc(LONG, "--time-limit", "2500", "--output-mode", "json", solver=solver)
@@ -128,30 +146,51 @@ def limited_time_with_improving_solutions() -> None:
         want(answer.status == 0 and COMPLETE not in answer.lines and not answer.comments(), answer.text + answer.errors)
 
 
+@test
 def enough_time() -> None:
     model = HARD.replace("1..8", "1..9").replace("hole[1];", "hole[1] + hole[2] * 3;")
     answer = minizinc(model, "--time-limit", "60000")
     want(COMPLETE in answer.lines and answer.comments() == ["% accepted: [cost >= 5]"], answer.text)
 
 
+@test
 def flags_without_effect() -> None:
     plain = minizinc(CLIMB)
     flagged = minizinc(CLIMB, "-f", "-p", "2", "-r", "5")
     want(flagged.status == 0 and flagged.text == plain.text, flagged.text + flagged.errors)
 
 
+@test
 def more_words() -> None:
     want_in("% drcp: solve up to", minizinc(CLIMB, "-v").errors)
 
 
+@test
 def goal_of_a_sum() -> None:
     answer = minizinc("var 0..9: x; var 0..9: y; constraint x + y >= 4; solve minimize 2*x + 3*y;")
     want(answer.comments() == ["% accepted: [X_INTRODUCED_0_ >= 8]"], answer.text)
 
 
+@test
 def goal_in_an_array() -> None:
     answer = minizinc("array[0..1] of var 0..9: c; constraint c[0] + c[1] >= 12; solve minimize c[1];")
     want(answer.comments() == ["% accepted: [c[1] >= 3]"], answer.text)
+
+
+@test
+def goal_that_equals_an_output() -> None:
+    goal = "var 0..9: X_INTRODUCED_1_; "
+    ones = "array [1..2] of int: X_INTRODUCED_2_ = [1,-1]; "
+    cost = "var 0..9: cost :: output_var; constraint int_le(3,X_INTRODUCED_1_); "
+    for text in (
+        goal + cost + "constraint int_eq(cost,X_INTRODUCED_1_);",
+        goal + cost + "constraint int_lin_eq([1,-1],[X_INTRODUCED_1_,cost],0);",
+        ones + goal + cost + "constraint int_lin_eq(X_INTRODUCED_2_,[cost,X_INTRODUCED_1_],0);",
+        goal + cost.replace(";", " = X_INTRODUCED_1_;", 1),
+    ):
+        with Workshop(m_fzn=f"{text} solve minimize X_INTRODUCED_1_;") as shop:
+            answer = call([sys.executable, str(HOME / "fzn-drcp-prove"), "m.fzn"], shop.folder)
+            want(answer.lines == ["cost = 3;", "----------", COMPLETE, "% accepted: [cost >= 3]"], answer.text)
 
 
 # What is refused, and how it is told.
@@ -164,6 +203,7 @@ def refused(model: str, *parts: str) -> None:
         want_in(part, answer.errors + answer.text)
 
 
+@test
 def float_variable() -> None:
     refused(
         "var 0.0..9.5: weight; var 0..3: x; constraint weight >= 1.5 * x; solve maximize x;",
@@ -173,23 +213,28 @@ def float_variable() -> None:
     )
 
 
+@test
 def no_bounds() -> None:
     refused("var int: x; constraint x > 3;", "`x` has no bounds", "give it some: `var 0..1000: x;`")
 
 
+@test
 def product_too_large() -> None:
     model = "var 0..99999: x; var 0..88888: y; constraint x * y = 777777;"
     refused(model, "drcp: a product of two variables, of 0..88888 and 0..99999: neither has at most 2000 values")
 
 
+@test
 def table_of_powers_too_large() -> None:
     refused("var 1..2000: x; var 1..99: y; constraint pow(x, y) = 8;", "drcp: a power whose table would have")
 
 
+@test
 def bounds_too_wide() -> None:
     refused("var 0..3000000000: x; solve maximize x;", "model refused: Limit", "beyond a limit")
 
 
+@test
 def constraint_of_another_library() -> None:
     with Workshop(m_fzn="var 0..3: x;\nconstraint int_times(x,x,x);\nsolve satisfy;\n") as shop:
         answer = shop.person("solve", "m.fzn", "out")
@@ -199,6 +244,7 @@ def constraint_of_another_library() -> None:
             want_in(part, answer.errors)
 
 
+@test
 def other_refusals() -> None:
     for text, part in (
         ("var 0..3: x; var 0..3: x; solve satisfy;", "declared twice"),
@@ -215,6 +261,7 @@ def other_refusals() -> None:
             want_in(part, shop.person("solve", "m.fzn", "out").errors)
 
 
+@test
 def float_without_a_name() -> None:
     with Workshop(m_mzn="var 1..9: x;\nconstraint sqrt(x) > 2.0;\n") as shop:
         answer = shop.person("prove", "m.mzn")
@@ -223,6 +270,7 @@ def float_without_a_name() -> None:
         want_in("it comes from m.mzn, line 2, column 17: x", answer.errors)
 
 
+@test
 def refused_log() -> None:
     with Workshop(small_mzn=SMALL) as shop:
         want(shop.person("prove", "small.mzn").status == 0, "not proved")
@@ -238,6 +286,7 @@ def refused_log() -> None:
 # The commands of a person.
 
 
+@test
 def from_a_model_to_a_proof() -> None:
     with Workshop(choice_mzn=CHOICE, data_dzn="n = 30;\n") as shop:
         answer = shop.person("prove", "choice.mzn", "data.dzn")
@@ -250,6 +299,7 @@ def from_a_model_to_a_proof() -> None:
         want(again.text == "accepted: [cost >= 12]\n", again.text)
 
 
+@test
 def the_example() -> None:
     """The two commands of the documents."""
     with Workshop() as shop:
@@ -260,12 +310,14 @@ def the_example() -> None:
         want(proved.lines == lines + ["accepted: [cost >= 10]"], proved.text + proved.errors)
 
 
+@test
 def data_in_a_word() -> None:
     with Workshop(choice_mzn=CHOICE) as shop:
         answer = shop.person("prove", "-q", "--folder", "kept", "choice.mzn", "-D", "n=50")
         want(answer.lines[-1] == "accepted: [cost >= 16]" and not answer.errors, answer.text + answer.errors)
 
 
+@test
 def packed_files() -> None:
     with Workshop(small_mzn=SMALL) as shop:
         answer = shop.person("prove", "--gz", "small.mzn")
@@ -283,6 +335,7 @@ def packed_files() -> None:
         want(answer.lines and answer.lines[-1] == "accepted: [cost >= 16]", answer.text + answer.errors)
 
 
+@test
 def one_file_named_twice() -> None:
     with Workshop(small_mzn=SMALL) as shop:
         shop.person("prove", "small.mzn", "--folder", ".")
@@ -295,6 +348,7 @@ def one_file_named_twice() -> None:
         want(shop.file("small.fzn").read_text() == before, "the model was written over")
 
 
+@test
 def limits() -> None:
     with Workshop(hard_mzn=HARD) as shop:
         few = shop.person("prove", "hard.mzn", "--conflicts", "3")
@@ -305,6 +359,7 @@ def limits() -> None:
         want_in("the time is up", late.errors)
 
 
+@test
 def satisfied_model() -> None:
     with Workshop(m_mzn="var 1..3: x; constraint x > 2;") as shop:
         answer = shop.person("prove", "m.mzn")
@@ -312,12 +367,14 @@ def satisfied_model() -> None:
         want_in("claims nothing", answer.errors)
 
 
+@test
 def contradiction_while_compiling() -> None:
     with Workshop(m_mzn="var 0..5: x; constraint x > 7;") as shop:
         answer = shop.person("prove", "m.mzn")
         want(answer.status == 0 and answer.lines[-1:] == ["accepted: UNSAT"], answer.text + answer.errors)
 
 
+@test
 def model_that_does_not_compile() -> None:
     with Workshop(m_mzn="var 1..3: x; constraint y > 2;") as shop:
         answer = shop.person("prove", "m.mzn")
@@ -325,6 +382,7 @@ def model_that_does_not_compile() -> None:
         want_in("undefined identifier `y'", answer.errors)
 
 
+@test
 def help_and_versions() -> None:
     with Workshop() as shop:
         for words in (["--help"], ["prove", "--help"], ["solve", "--help"], ["process", "--help"], ["check", "--help"]):
@@ -335,12 +393,14 @@ def help_and_versions() -> None:
             want_in(solver, call([sys.executable, str(HOME / solver), "--version"], shop.folder).text)
 
 
+@test
 def missing_program() -> None:
     answer = minizinc("var 1..2: x;", environment={"DRCP": "/nowhere/drcp"})
     want(answer.status != 0, "accepted")
     want_in("DRCP names /nowhere/drcp", answer.errors)
 
 
+@test
 def missing_compiler() -> None:
     with Workshop(small_mzn=SMALL) as shop, tempfile.TemporaryDirectory() as tools:
         Path(tools, "python3").symlink_to(shutil.which("python3") or sys.executable)
@@ -349,6 +409,7 @@ def missing_compiler() -> None:
         want_in("minizinc is not on the path", answer.errors)
 
 
+@test
 def library_is_a_line_away_from_native() -> None:
     """A builtin whose line is taken out of the library stays native."""
     with tempfile.TemporaryDirectory() as folder:
@@ -364,18 +425,7 @@ def library_is_a_line_away_from_native() -> None:
 
 
 def tests() -> List[Tuple[str, Callable[[], None]]]:
-    """Each test with its name: the models first, then what is defined above."""
+    """Each test with its name: the models, the meanings of what is decomposed, then what is marked above."""
     models = [(f"model: {case.name}", lambda case=case: solved_and_proved(case)) for case in CASES]
-    kinds = (
-        every_solution, some_solutions, more_solutions_than_there_are, every_solution_of_arrays,
-        every_solution_without_output, improving_solutions, statistics, limited_time,
-        limited_time_with_improving_solutions, enough_time,
-        flags_without_effect, more_words, goal_of_a_sum, goal_in_an_array, float_variable, no_bounds, product_too_large,
-        table_of_powers_too_large, bounds_too_wide, constraint_of_another_library, other_refusals,
-        float_without_a_name, refused_log, the_example,
-        from_a_model_to_a_proof, data_in_a_word, packed_files, one_file_named_twice, limits, satisfied_model,
-        contradiction_while_compiling, model_that_does_not_compile, help_and_versions, missing_program, missing_compiler,
-        library_is_a_line_away_from_native,
-    )
     tables = [(f"meaning: {table.name}", lambda table=table: same_solutions(table)) for table in TABLES]
-    return models + tables + [(kind.__name__.replace("_", " "), kind) for kind in kinds]
+    return models + tables + [(check.__name__.replace("_", " "), check) for check in TESTS]
