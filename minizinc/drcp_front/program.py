@@ -4,8 +4,8 @@ import os
 import shutil
 import signal
 import subprocess
-import sys
 import tempfile
+import threading
 import time
 from dataclasses import dataclass
 from pathlib import Path
@@ -13,6 +13,9 @@ from typing import Callable, List, Optional, Union
 
 BUILT = Path(__file__).resolve().parents[2] / "crates/drcp/out/drcp"
 MOST_CONFLICTS = 4_000_000_000
+
+# Seconds between two looks at a run, and between two reports of it.
+LOOK_EVERY, REPORT_EVERY = 0.1, 1.0
 
 ENDED_WELL, REFUSED, NO_COMMAND, MODEL_REFUSED, LIMIT_REACHED = 0, 1, 2, 3, 4
 MEANINGS = {5: "an input could not be read", 6: "an output could not be written", 7: "there was not enough memory"}
@@ -112,19 +115,22 @@ class Patience:
 Reporter = Union[Progress, Patience]
 
 
+told_to_end = threading.Event()
+
+
 def end_on_signals() -> None:
     """Ends in order when it is told to end, so that a run of the program ends too."""
     for number in (signal.SIGTERM, signal.SIGINT):
-        signal.signal(number, lambda *_: sys.exit(1))
+        signal.signal(number, lambda *_: told_to_end.set())
 
 
-def run(words: List[str], clock: Clock, progress: Optional[Reporter] = None, every: float = 1.0) -> Ended:
+def run(words: List[str], clock: Clock, progress: Optional[Reporter] = None) -> Ended:
     """Runs the program with these words until it ends, or until the time is up."""
     begun = time.monotonic()
     with tempfile.TemporaryFile() as answer:
         child = subprocess.Popen([find_program(), *words], stdout=answer, stderr=subprocess.STDOUT)
         try:
-            wait_for(child, clock, progress, every)
+            wait_for(child, clock, progress)
         finally:
             if child.poll() is None:
                 child.kill()
@@ -138,17 +144,21 @@ def run(words: List[str], clock: Clock, progress: Optional[Reporter] = None, eve
     return ended
 
 
-def wait_for(child: subprocess.Popen, clock: Clock, progress: Optional[Reporter], every: float) -> None:
-    while True:
+def wait_for(child: subprocess.Popen, clock: Clock, progress: Optional[Reporter]) -> None:
+    """Waits until the program ends; reports again and again, and stops where the time is up or a signal came."""
+    reported = time.monotonic()
+    while child.poll() is None:
+        if told_to_end.is_set():
+            raise SystemExit(1)
         if clock.is_up():
             raise TimeUp()
-        left = clock.left()
+        if progress and time.monotonic() - reported >= REPORT_EVERY:
+            progress.report()
+            reported = time.monotonic()
         try:
-            child.wait(every if left is None else min(every, max(left, 0.001)))
-            return
+            child.wait(LOOK_EVERY)
         except subprocess.TimeoutExpired:
-            if progress:
-                progress.report()
+            pass
 
 
 def solve(model: Path, scaffold: Path, conflicts: int, clock: Clock, progress: Optional[Progress] = None) -> Ended:

@@ -185,8 +185,8 @@ def read_options(words: List[str], prove: bool) -> argparse.Namespace:
         description="Solves a compiled model with drcp" + (", and checks a proof of what is claimed" if prove else ""),
     )
     reader.add_argument("model", metavar="MODEL.fzn")
-    reader.add_argument("-a", dest="all", action="store_true", help="all solutions, or each improving one")
-    reader.add_argument("-i", dest="improving", action="store_true", help="each improving solution")
+    reader.add_argument("-a", dest="all", action="store_true", help="all solutions, or improving ones")
+    reader.add_argument("-i", dest="improving", action="store_true", help="improving solutions")
     reader.add_argument("-n", dest="solutions", type=int, metavar="N", help="at most N solutions; 0 is all")
     reader.add_argument("-s", dest="statistics", action="store_true", help="failures, nogoods, bytes, times")
     reader.add_argument("-t", dest="time", type=int, metavar="MS", help="end after so many milliseconds")

@@ -8,6 +8,12 @@ predicate int_times(var int: a, var int: b, var int: c) =
   else drcp_product_by_values(b, a, c)
   endif;
 
+% The least and the greatest product lie at the ends of the factors. That is said outright, since the product may be a
+% factor of another one.
+predicate drcp_within_ends(var int: a, var int: b, var int: product) =
+  let { array[int] of int: ends = [x * y | x in {lb(a), ub(a)}, y in {lb(b), ub(b)}] } in
+  product >= min(ends) /\ product <= max(ends);
+
 % The multiple of `other` that the value of `few` chooses is the product.
 predicate drcp_product_by_values(var int: few, var int: other, var int: product) =
   assert(
@@ -15,6 +21,7 @@ predicate drcp_product_by_values(var int: few, var int: other, var int: product)
     "drcp: a product of two variables, of " ++ show(drcp_hull(few)) ++ " and " ++ show(drcp_hull(other))
       ++ ": neither has at most " ++ show(drcp_product_limit) ++ " values. Give one of them tighter bounds."
   ) /\
+  drcp_within_ends(few, other, product) /\
   let {
     array [drcp_hull(few)] of var int: multiples =
       array1d(drcp_hull(few), [drcp_multiple(other, value, value in dom(few)) | value in drcp_hull(few)]);

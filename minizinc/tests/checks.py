@@ -3,8 +3,10 @@
 import gzip
 import re
 import shutil
+import subprocess
 import sys
 import tempfile
+import time
 from pathlib import Path
 from typing import Callable, List, Tuple
 
@@ -380,6 +382,30 @@ def model_that_does_not_compile() -> None:
         answer = shop.person("prove", "m.mzn")
         want(answer.status == 1, f"status {answer.status}")
         want_in("undefined identifier `y'", answer.errors)
+
+
+@test
+def ended_from_outside() -> None:
+    """The program ends with the front end that runs it."""
+    with Workshop(m_fzn=compiled(HARD.replace("9", "12").replace("8", "11"))) as shop:
+        solver = subprocess.Popen([sys.executable, str(HOME / "fzn-drcp"), str(shop.file("m.fzn"))])
+        children = Path(f"/proc/{solver.pid}/task/{solver.pid}/children")
+        deadline = time.monotonic() + 20
+        while not children.read_text().split() and time.monotonic() < deadline:
+            time.sleep(0.05)
+        child = children.read_text().split()[0]
+        solver.terminate()
+        solver.wait(20)
+        want(not Path(f"/proc/{child}").exists(), "drcp runs on")
+
+
+@test
+def skipped_without_minizinc() -> None:
+    with Workshop() as shop, tempfile.TemporaryDirectory() as empty:
+        answer = call([sys.executable, str(HOME / "test")], shop.folder, {"PATH": empty})
+        want(answer.status == 0, f"status {answer.status}")
+        want(re.fullmatch(r"minizinc: 0 passed, 0 failed, \d+ skipped", answer.lines[-1]), answer.text)
+        want_in("minizinc is not on the path", answer.text)
 
 
 @test
