@@ -10,6 +10,8 @@ int: drcp_pairs_limit = 60;
 % The values from the least to the greatest one, whether or not the domain has holes.
 function set of int: drcp_hull(var int: x) =
   assert(
-    has_bounds(x), "drcp: a variable without bounds in a product, a quotient, a rest or a power. Give it some.",
+    has_bounds(x),
+    "drcp: a variable without bounds in a product, a quotient, a rest or a power. Give it some;"
+      ++ " in place of product([x, y, z]) write x * y * z.",
     lb(x)..ub(x)
   );

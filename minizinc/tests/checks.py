@@ -227,6 +227,16 @@ def product_too_large() -> None:
 
 
 @test
+def factor_without_bounds() -> None:
+    refused("var int: x; var 1..3: y; constraint x * y > 4;", "drcp: a variable without bounds in a product")
+    refused("array[1..3] of var 1..3: x; constraint product(x) = 12;", "write x * y * z")
+    model = "var 1..3: x; var 1..3: y; var 1..3: z; constraint x * y * z = 18 /\\ x < y;"
+    answer = minizinc(model, "--output-mode", "json")
+    found = [(v["x"], v["y"], v["z"]) for v in answer.solutions()]
+    want(found == [(2, 3, 3)], f"{found}\n{answer.errors}")
+
+
+@test
 def table_of_powers_too_large() -> None:
     refused("var 1..2000: x; var 1..99: y; constraint pow(x, y) = 8;", "drcp: a power whose table would have")
 
