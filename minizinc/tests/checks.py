@@ -22,9 +22,9 @@ CLIMB = """array[1..7] of var 0..1: x; constraint sum(i in 1..7)((i + 3) * x[i])
 var int: worth; constraint worth = sum(i in 1..7)((i * i mod 7 + i) * x[i]); solve maximize worth;"""
 HARD = """array[1..9] of var 1..8: hole; constraint forall(i, j in 1..9 where i < j)(hole[i] + 0 != hole[j]);
 var int: cost = hole[1]; solve minimize cost;"""
-LONG = """include "all_different.mzn"; array[1..15] of var 1..15: p; constraint all_different(p);
-array[1..15, 1..15] of int: far = array2d(1..15, 1..15, [(i * 7 + j * 5) mod 17 | i, j in 1..15]);
-var int: cost; constraint cost = sum(i in 1..14)(far[p[i], p[i + 1]] * (1 + i mod 3)); solve minimize cost;"""
+LONG = """include "all_different.mzn"; array[1..11] of var 1..11: p; constraint all_different(p);
+array[1..11, 1..11] of int: far = array2d(1..11, 1..11, [(i * 7 + j * 5) mod 17 | i, j in 1..11]);
+var int: cost; constraint cost = sum(i in 1..10)(far[p[i], p[i + 1]] * (1 + i mod 3)); solve minimize cost;"""
 SMALL = "var 0..3: x;\nvar 0..3: y;\nconstraint x + y <= 2;\nconstraint x + y >= 3;\n"
 CHOICE = """int: n; var 1..9: x; constraint x * x >= n; var int: cost = 2 * x; solve minimize cost;
 output ["x is \\(x)\\n"];"""
