@@ -1,25 +1,23 @@
 -- What an accepted log says of its bytes and of the goal.
-use Rattle.std.specs.Prelude.{◌≡◌, ℕ, suc, ◌+◌, ◌<◌, ◌≤◌, ◌^◌, nat_lt, Bool, true, false, ◌&&◌, ◌==◌, if◌then◌else◌, Option, Some, None, Result, Ok, Err, IfOk, IfSome, List, [], ◌∷◌, length, ℤ}
+use Rattle.std.specs.Prelude.{◌≡◌, ℕ, ◌<◌, ◌≤◌, ◌^◌, Bool, true, false, ◌&&◌, ◌==◌, Option, Some, None, Result, Ok, Err, IfOk, IfSome, List, [], ◌∷◌, length, ℤ}
 use Rattle.std.specs.List.{list_all}
 use Rattle.std.specs.Option.{option_map}
-use Rattle.std.proofs.Common.{refl, subst, arith}
+use Rattle.std.proofs.Common.{refl, arith}
 use Rattle.std.proofs.lemmas.Bool.{false≢true}
 use Rattle.std.proofs.lemmas.Bool.Decides.{nat_tests}
 use Rattle.dp_domain.specs.Atoms.{Atomic}
 use Rattle.dp_domain.specs.declared.atom.Op.{Op}
 use Rattle.dp_domain.specs.declared.verdict.Verdict.{Verdict}
 use Rattle.dp_domain.specs.declared.verdict.Verdict.TheVariants.{Unsat, Bound}
-use Rattle.dp_lines.specs.Lines.{Lines, judged, led_by, lines, lines_behind}
-use Rattle.dp_lines.specs.RawLines.{Raw, raw_lines, size, with_byte}
-use Rattle.dp_lines.specs.declared.judge.Judged.{Judged}
-use Rattle.dp_lines.specs.declared.judge.Judged.TheVariants.{Blank, Given, Refused as RefusedLine}
+use Rattle.dp_lines.specs.Driving.{limits}
+use Rattle.dp_lines.specs.Lines.{Lines, lines}
+use Rattle.dp_lines.specs.RawLines.{raw_lines}
 use Rattle.dp_lines.specs.declared.line.Claim.{Claim}
 use Rattle.dp_lines.specs.declared.line.Claim.TheVariants as claim
 use Rattle.dp_lines.specs.declared.line.Line.{Line}
 use Rattle.dp_lines.specs.declared.line.Line.TheVariants.{Atom, Inference, Nogood, Delete, Conclude}
 use Rattle.dp_lines.specs.declared.refusal.LineRefusal.{LineRefusal}
-use Rattle.dp_lines.specs.declared.refusal.LineRefusal.TheVariants.{LogTooLong}
-use Rattle.dp_lines.specs.declared.refusal.Limits.{Limits}
+use Rattle.dp_lines.proofs.SizeLaws.{read_small}
 use Rattle.dp_parts.specs.declared.goal.Goal.{Goal}
 use Rattle.dp_parts.specs.declared.goal.Goal.TheVariants.{Satisfy, Minimize, Maximize}
 use Rattle.dp_parts.specs.Posed.{Posed}
@@ -28,64 +26,7 @@ use Rattle.dp_checker.specs.Judged.{after, concluded, conclusion_refusal, first_
 use Rattle.dp_checker.specs.Known.{Known, cons_some, literal_atom, literal_atoms, nothing}
 use Rattle.dp_checker.specs.declared.refusal.StepRefusal.{StepRefusal}
 use Rattle.dp_checker.specs.declared.refusal.Why.{Why}
-use Rattle.dp_judge.specs.Logs.{IsGoalAnswer, IsOfGoal, IsSmallAnswer, answer_after, conclude, ended, judged_log, limits}
-
--- ---- the number of bytes
-
-abbrev sizes : List Raw → ℕ
-sizes [] = 0
-sizes (raw ∷ raws) = size raw + sizes raws
-
-byte_more : (b : ℕ) (raws : List Raw) → sizes (with_byte b raws) ≡ sizes raws + 1
-byte_more b [] = refl
-byte_more b (raw ∷ raws) = by_feed raw.fed raw.bytes (sizes raws)
-  where
-    by_feed : (fed : Bool) (bytes : List ℕ) (n : ℕ) → (if fed then length (b ∷ bytes) + 1 else length (b ∷ bytes)) + n ≡ (if fed then length bytes + 1 else length bytes) + n + 1
-    by_feed true bytes n = omega arith
-    by_feed false bytes n = omega arith
-
-feed_size : (raws : List Raw) → size (record { bytes = []; fed = true }) + sizes raws ≡ sizes raws + 1
-feed_size raws = omega arith
-
-all_sizes : (text : List ℕ) → sizes (raw_lines text) ≡ length text
-all_sizes [] = refl
-all_sizes (b ∷ text) = by_byte (b == 10) (all_sizes text)
-  where
-    by_byte : (f : Bool) → sizes (raw_lines text) ≡ length text → sizes (if f then record { bytes = []; fed = true } ∷ raw_lines text else with_byte b (raw_lines text)) ≡ suc (length text)
-    by_byte true e = let k = feed_size (raw_lines text) in omega (arith, e, k)
-    by_byte false e = let k = byte_more b (raw_lines text) in omega (arith, e, k)
-
-unrefused : (number : ℕ) (j : Judged) (later : Lines) → (led_by number j later).refusal ≡ None → later.refusal ≡ None
-unrefused number Blank later e = e
-unrefused number (Given line) later e = e
-unrefused number (RefusedLine refusal) later e = absurd cc
-
-no_refusal : (number : ℕ) (j : Judged) (later : Lines) (refusal : LineRefusal) → j ≡ RefusedLine refusal → (led_by number j later).refusal ≡ None → ⊥
-no_refusal number j later refusal e h = some_none refusal (subst (λ (k : Judged). (led_by number k later).refusal ≡ None) e h)
-  where
-    some_none : (r : LineRefusal) → Some r ≡ None → ⊥
-    some_none r e = cc
-
-not_over : (total n : ℕ) → (nat_lt total n ≡ true → ⊥) → n ≤ total
-not_over total n h = by_test (nat_lt total n) refl
-  where
-    by_test : (b : Bool) → nat_lt total n ≡ b → n ≤ total
-    by_test true e = absurd (h e)
-    by_test false e = grind (arith, nat_tests, e)
-
-over_refused : (l : Limits) (number passed : ℕ) (raw : Raw) → nat_lt l.total (passed + size raw) ≡ true → judged l number passed raw ≡ RefusedLine (LogTooLong number)
-over_refused l number passed raw e = rw e refl
-
-within : (l : Limits) (count passed : ℕ) (raws : List Raw) → passed ≤ l.total → (lines_behind l count passed raws).refusal ≡ None → passed + sizes raws ≤ l.total
-within l count passed [] h e = omega (arith, h)
-within l count passed (raw ∷ raws) h e =
-    let fits : passed + size raw ≤ l.total = not_over l.total (passed + size raw) (λ over. no_refusal (count + 1) (judged l (count + 1) passed raw) (lines_behind l (count + 1) (passed + size raw) raws) (LogTooLong (count + 1)) (over_refused l (count + 1) passed raw over) e) in
-    let k = within l (count + 1) (passed + size raw) raws fits (unrefused (count + 1) (judged l (count + 1) passed raw) (lines_behind l (count + 1) (passed + size raw) raws) e) in
-    omega (arith, k)
-
--- a log that is read to its end is within its limit
-pub read_small : (text : List ℕ) → (lines limits text).refusal ≡ None → length text ≤ 2 ^ 40
-read_small text e = let k = within limits 0 0 (raw_lines text) (omega arith) e in let s = all_sizes text in omega (arith, k, s)
+use Rattle.dp_judge.specs.Logs.{IsGoalAnswer, IsOfGoal, IsSmallAnswer, answer_after, conclude, ended, judged_log}
 
 ended_small : (text : List ℕ) (refusal : Option LineRefusal) (r : Result Verdict StepRefusal) → (refusal ≡ None → length text ≤ 2 ^ 40) → IsSmallAnswer text (ended refusal (conclude r))
 ended_small text None (Ok verdict) h = h refl

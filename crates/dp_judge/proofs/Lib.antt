@@ -1,3 +1,2 @@
 pub mod AcceptLaws
-pub mod Bringing
-pub mod NumberLaws
+pub mod Taking

@@ -1,32 +1,20 @@
 -- What is answered for a log: the verdict on its lines, or its first refused line.
-use Rattle.std.specs.Prelude.{◌≡◌, ◌<◌, ◌≤◌, true, ℕ, ◌^◌, Option, Some, None, Result, Ok, Err, IsOk, List, length, nat_eq}
-use Rattle.std.specs.Map.{lookup}
-use Rattle.std.specs.Option.{option_map}
+use Rattle.std.specs.Prelude.{◌≡◌, ◌≤◌, ℕ, ◌^◌, Option, Some, None, Result, Ok, Err, IsOk, List, length}
 use Rattle.dp_domain.specs.declared.verdict.Verdict.{Verdict}
-use Rattle.dp_domain.specs.declared.verdict.Verdict.TheVariants.{Unsat, Bound}
+pub use Rattle.dp_lines.specs.Driving.{limits, text_of_line}
 use Rattle.dp_lines.specs.Lines.{Lines, lines}
 use Rattle.dp_lines.specs.RawLines.{raw_lines}
 use Rattle.dp_lines.specs.SoFar.{lines_so_far}
-use Rattle.dp_lines.specs.Spelling.{line_text}
-use Rattle.dp_lines.specs.declared.line.Line.{Line}
 use Rattle.dp_lines.specs.declared.refusal.LineRefusal.{LineRefusal}
-use Rattle.dp_lines.specs.declared.refusal.Limits.{Limits}
 use Rattle.dp_parts.specs.Posed.{Posed}
 use Rattle.dp_parts.specs.Problems.{Csp}
-use Rattle.dp_checker.specs.Judged.{is_bound, judge_all, verdict_of}
+pub use Rattle.dp_checker.specs.Goals.{IsOfGoal}
+use Rattle.dp_checker.specs.Judged.{judge_all, verdict_of}
 use Rattle.dp_checker.specs.Kept.{IsRight}
 use Rattle.dp_checker.specs.Known.{Known, nothing}
 use Rattle.dp_checker.specs.declared.refusal.StepRefusal.{StepRefusal}
 use Rattle.dp_judge.specs.declared.answer.LogAnswer.{LogAnswer}
 use Rattle.dp_judge.specs.declared.answer.LogAnswer.TheVariants.{Accepted, Unread, Refused}
-
--- the most bytes of a line and of a log
-abbrev pub limits : Limits
-limits = record { line = 2 ^ 24; total = 2 ^ 40 }
-
--- the canonical spelling of the line with this number
-abbrev pub text_of_line : List (ℕ × Line) → ℕ → Option (List ℕ)
-text_of_line given number = option_map line_text (lookup (nat_eq number) given)
 
 -- what is concluded, or that nothing is
 abbrev pub conclude : Result Verdict StepRefusal → LogAnswer
@@ -56,11 +44,6 @@ abbrev pub IsRightAnswer : Csp → LogAnswer → Type 0
 IsRightAnswer p (Accepted verdict) = IsRight p verdict
 IsRightAnswer p (Unread refusal) = Unit {0}
 IsRightAnswer p (Refused refusal text) = Unit {0}
-
--- a bound that is concluded is on the goal's variable, on the goal's side
-abbrev pub IsOfGoal : Csp → Verdict → Type 0
-IsOfGoal p Unsat = Unit {0}
-IsOfGoal p (Bound a) = (is_bound p.goal a ≡ true) × (a.var < length p.initial)
 
 -- where the log is accepted, what it concludes is of the goal
 abbrev pub IsGoalAnswer : Csp → LogAnswer → Type 0

@@ -1,42 +1,31 @@
 -- A log that is judged while it comes in pieces.
-use Rattle.std.specs.Prelude.{◌≡◌, ℕ, ◌++◌, true, false, Option, Some, None, Result, Ok, Err, IsOk, List}
-use Rattle.dp_lines.specs.Pieces.{HasRead}
-use Rattle.dp_lines.specs.Readers.{State}
-use Rattle.dp_lines.specs.Spelling.{line_text}
-use Rattle.dp_lines.specs.Standing.{CanCome}
+use Rattle.std.specs.Prelude.{◌≡◌, ℕ, None, Ok, IsOk, List}
+use Rattle.std.proofs.Common.{refl, sym, subst}
+use Rattle.dp_lines.specs.Driving.{Coming, HasCome, limits}
+use Rattle.dp_lines.specs.Lines.{Lines}
+use Rattle.dp_lines.specs.SoFar.{lines_so_far}
 use Rattle.dp_lines.specs.declared.line.Line.{Line}
-use Rattle.dp_parts.specs.Posed.{Posed}
-use Rattle.dp_parts.specs.Problems.{Csp, IsProblem, posed}
-use Rattle.dp_checker.specs.Judged.{judge, judge_all, verdict}
-use Rattle.dp_checker.specs.Known.{Known, nothing}
-use Rattle.dp_checker.specs.declared.refusal.StepRefusal.{StepRefusal}
-use Rattle.dp_judge.specs.Logs.{IsGoalAnswer, IsRightAnswer, IsSmallAnswer, conclude, has_no_refusal, judged_log, limits}
+use Rattle.dp_parts.specs.Problems.{IsProblem, posed}
+use Rattle.dp_checker.specs.Answers.{Checking}
+use Rattle.dp_checker.specs.Judged.{judge_all}
+use Rattle.dp_checker.specs.Known.{nothing}
+use Rattle.dp_judge.specs.Logs.{IsGoalAnswer, IsRightAnswer, IsSmallAnswer, has_no_refusal, judged_log}
 use Rattle.dp_judge.specs.declared.answer.LogAnswer.{LogAnswer}
-use Rattle.dp_judge.specs.declared.answer.LogAnswer.TheVariants.{Accepted, Unread, Refused as RefusedAnswer}
-use Rattle.dp_judge.specs.declared.pieces.Next.{Next}
-use Rattle.dp_judge.specs.declared.pieces.Next.TheVariants.{Taken, Ended, Refused}
+use Rattle.dp_judge.specs.declared.answer.LogAnswer.TheVariants.{Accepted, Unread, Refused}
 
--- a problem, what the lines so far have made known, and the reader of the log
-pub record Going : Type 0 where
-  pub problem : Csp
-  pub progress : Result Known StepRefusal
-  pub reader : State
+-- a problem, and what the lines so far have made known
+abbrev pub Going : Type 0
+Going = Checking
 
--- these bytes have come, and so much is known by the lines that the reader has given of them
-pub record IsJudged (p : Posed) (front : List ℕ) (known : Result Known StepRefusal) (s : State) : Type 0 where
-  pub given : List (ℕ × Line)
-  pub read : HasRead limits front given s
-  pub judged : known ≡ judge_all p (Ok nothing) given
-  pub going : IsOk known
-
--- ---- what is promised of a log that comes
+-- these lines were judged, and none of them is refused
+pub record HasJudged (j : Going) (given : List (ℕ × Line)) : Type 0 where
+  pub problem : IsProblem j.problem
+  pub judged : j.progress ≡ judge_all (posed j.problem) (Ok nothing) given
+  pub going : IsOk j.progress
 
 -- these bytes have come, more may follow, and each line whose end has come passes
-pub record IsBehind (j : Going) (front : List ℕ) : Type 0 where
-  pub problem : IsProblem j.problem
-  pub judged : IsJudged (posed j.problem) front j.progress j.reader
-  pub unended : j.reader.ended ≡ false
-  pub quiet : has_no_refusal (posed j.problem) front
+abbrev pub IsBehind : Coming Going → List ℕ → Type 0
+IsBehind j front = HasCome (HasJudged j.taker) front j.reader
 
 -- the answer for this log, and what is promised of it
 pub record IsDue (j : Going) (text : List ℕ) (answer : LogAnswer) : Type 0 where
@@ -53,34 +42,9 @@ IsUnrefused j front = has_no_refusal (posed j.problem) front
 abbrev pub Refuses : LogAnswer → Type 0
 Refuses (Accepted verdict) = ⊥
 Refuses (Unread refusal) = Unit {0}
-Refuses (RefusedAnswer refusal text) = Unit {0}
+Refuses (Refused refusal text) = Unit {0}
 
--- ---- what the lines that are left bring
-
--- The lines that are whole all pass: none of those whose end has come is refused, and behind the text's end the conclusion decides.
-pub record ArePassed (p : Posed) (front : List ℕ) (known : Result Known StepRefusal) (s : State) : Type 0 where
-  pub judged : IsJudged p front known s
-  pub quiet : s.ended ≡ false → has_no_refusal p front
-  pub whole : s.ended ≡ true → judged_log p front ≡ conclude (verdict known s.count)
-
--- a line is refused, which is the answer whatever may come
-pub record AreRefused (p : Posed) (front : List ℕ) (s : State) (answer : LogAnswer) : Type 0 where
-  pub refuses : Refuses answer
-  pub answered : (more : List ℕ) → CanCome s more → answer ≡ judged_log p (front ++ more)
-
--- what judging all lines that are left answers
-abbrev pub AreLeft : Option LogAnswer → Posed → List ℕ → Result Known StepRefusal → State → Type 0
-AreLeft None p front known s = ArePassed p front known s
-AreLeft (Some answer) p front known s = AreRefused p front s answer
-
--- What taking the next line answers: it passes; or none is left; or it is refused.
-abbrev pub IsNext : Next → Posed → List ℕ → Result Known StepRefusal → State → Type 0
-IsNext Taken p front known s = IsJudged p front known s
-IsNext Ended p front known s = ArePassed p front known s
-IsNext (Refused answer) p front known s = AreRefused p front s answer
-
--- What taking this line answers: it passes, and so much is known behind it; or a test refuses it, and it is told.
-abbrev pub IsTaken : Next → Posed → Result Known StepRefusal → ℕ × Line → Result Known StepRefusal → Type 0
-IsTaken Taken p was line now = (now ≡ judge p was line) × IsOk now
-IsTaken Ended p was line now = ⊥
-IsTaken (Refused answer) p was line now = (refusal : StepRefusal) × (judge p was line ≡ Err refusal) × (answer ≡ RefusedAnswer refusal (Some (line_text line.1)))
+-- where its lines so far were all judged so, none is refused
+pub quiet : (j : Going) (given : List (ℕ × Line)) (front : List ℕ) → HasJudged j given → lines_so_far limits front ≡ record { given = given; refusal = None } → IsUnrefused j front
+quiet j given front h e =
+    subst (λ (l : Lines). (l.refusal ≡ None) × IsOk (judge_all (posed j.problem) (Ok nothing) l.given)) (sym e) (refl, subst IsOk h.judged h.going)

@@ -6,7 +6,7 @@ ghost use Rattle.dp_judge.specs.Logs.{IsGoalAnswer, IsRightAnswer, IsSmallAnswer
 
 use crate::{Judging, LogAnswer};
 use dp_domain::Memory;
-use dp_lines::LineJudge;
+use dp_lines::judge_text;
 use dp_parts::Problem;
 use std::alloc::Global;
 
@@ -18,9 +18,5 @@ pub fn judge_log(alloc: Global, problem: &Problem, log: &[u8]) -> Result<LogAnsw
     ensures goal { IfOk result (IsGoalAnswer problem.now) }
     ensures small { IfOk result (IsSmallAnswer log.now) }
 {
-    let mut judging = Judging::new(alloc, problem)?;
-    match judging.feed(log)? {
-        Some(answer) => Ok(answer),
-        None => judging.finish(),
-    }
+    judge_text(Judging::new(alloc, problem)?, log)
 }

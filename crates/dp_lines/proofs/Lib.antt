@@ -1,4 +1,5 @@
 pub mod AllowedLaws
+pub mod DrivingLaws
 pub mod FigureLaws
 pub mod FlawLaws
 pub mod HeldLaws
@@ -6,6 +7,8 @@ pub mod LeftLaws
 pub mod LenientLaws
 pub mod LongLaws
 pub mod ManyLaws
+pub mod NumberLaws
+pub mod OneByOne
 pub mod OverlongLaws
 pub mod PiecesLaws
 pub mod RawLaws
@@ -13,6 +16,7 @@ pub mod ReadBackLaws
 pub mod ReadingLaws
 pub mod RoundTrip
 pub mod RunLaws
+pub mod SizeLaws
 pub mod SpellingLaws
 pub mod StepLaws
 pub mod WordLaws

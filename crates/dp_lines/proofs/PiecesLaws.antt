@@ -29,7 +29,7 @@ first_gave (LineFirst line) count r later rest e = ap (λ (g : List (ℕ × Line
 first_gave (Refusal refusal) count r later rest e = e
 first_gave Nothing count r later rest e = e
 
-first_stands : (first : First) (count : ℕ) (r : Run) → (with_first first count r).state ≡ r.state
+pub first_stands : (first : First) (count : ℕ) (r : Run) → (with_first first count r).state ≡ r.state
 first_stands (LineFirst line) count r = refl
 first_stands (Refusal refusal) count r = refl
 first_stands Nothing count r = refl

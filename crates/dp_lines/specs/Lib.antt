@@ -1,5 +1,6 @@
 pub mod Allowed
 pub mod Answers
+pub mod Driving
 pub mod Fields
 pub mod FirstFlaw
 pub mod Figures

@@ -1,6 +1,7 @@
 // The lines of a log: what each says, how it is spelled, and how a log that comes in pieces is read.
 #![tactic(auto)]
 
+mod driver;
 mod fields;
 mod figures;
 mod judge;
@@ -17,6 +18,7 @@ mod tests;
 mod text;
 mod words;
 
+pub use driver::{InPieces, LineTaker, judge_text};
 pub use laws::{any_pieces, every_spelling, first_flaw, nothing_left, round_trip, so_far};
 pub use line::{Claim, Line};
 pub use lists::{Literals, Numbers};

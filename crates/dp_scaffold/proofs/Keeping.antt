@@ -19,7 +19,7 @@ use Rattle.dp_domain.specs.States.{AreOf}
 use Rattle.dp_domain.specs.declared.atom.Op.{Op}
 use Rattle.dp_domain.specs.declared.verdict.Verdict.{Verdict}
 use Rattle.dp_domain.specs.declared.verdict.Verdict.TheVariants.{Unsat as NoSolution, Bound as NoBetter}
-use Rattle.dp_judge.specs.Logs.{IsOfGoal}
+use Rattle.dp_checker.specs.Goals.{IsOfGoal}
 use Rattle.dp_lines.specs.declared.line.Claim.{Claim}
 use Rattle.dp_lines.specs.declared.line.Claim.TheVariants.{Unsat, Bound}
 use Rattle.dp_lines.specs.declared.line.Line.{Line}

@@ -1,5 +1,5 @@
 pub mod Passing
 pub mod Keeping
-pub mod Bringing
+pub mod Taking
 mod TestProblem
 mod Pieced

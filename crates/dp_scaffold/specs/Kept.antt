@@ -4,7 +4,7 @@ use Rattle.dp_base.specs.Lists.{Each}
 use Rattle.dp_domain.specs.Atoms.{Atomic}
 use Rattle.dp_domain.specs.States.{AreOf}
 use Rattle.dp_domain.specs.declared.verdict.Verdict.{Verdict}
-use Rattle.dp_judge.specs.Logs.{IsOfGoal}
+use Rattle.dp_checker.specs.Goals.{IsOfGoal}
 use Rattle.dp_parts.specs.Problems.{Csp, IsProblem}
 use Rattle.dp_scaffold.specs.Gathering.{Gathered, most_literals, most_nogoods}
 use Rattle.dp_scaffold.specs.Scaffolds.{IsScaffold, nogood_of}

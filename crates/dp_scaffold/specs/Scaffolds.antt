@@ -6,7 +6,7 @@ use Rattle.dp_domain.specs.States.{AreOf}
 use Rattle.dp_domain.specs.declared.verdict.Verdict.{Verdict}
 use Rattle.dp_domain.specs.declared.verdict.Verdict.TheVariants.{Unsat, Bound}
 use Rattle.dp_parts.specs.Problems.{Csp}
-use Rattle.dp_judge.specs.Logs.{IsOfGoal}
+use Rattle.dp_checker.specs.Goals.{IsOfGoal}
 
 -- the nogood that a conclusion is: none of the atoms of UNSAT, which has none, and not the bound's negation
 abbrev pub nogood_of : Verdict → List Atomic

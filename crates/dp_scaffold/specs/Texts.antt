@@ -6,7 +6,7 @@ use Rattle.dp_lines.specs.SoFar.{lines_so_far}
 use Rattle.dp_lines.specs.declared.refusal.LineRefusal.{LineRefusal}
 use Rattle.dp_parts.specs.Posed.{Posed}
 use Rattle.dp_parts.specs.Problems.{Csp}
-use Rattle.dp_judge.specs.Logs.{limits, text_of_line}
+use Rattle.dp_lines.specs.Driving.{limits, text_of_line}
 use Rattle.dp_scaffold.specs.Scaffolds.{IsScaffoldOf, Learned}
 use Rattle.dp_scaffold.specs.Gathering.{Gathered, gather_all, nothing, scaffold_of}
 use Rattle.dp_scaffold.specs.declared.answer.ScaffoldAnswer.{ScaffoldAnswer}

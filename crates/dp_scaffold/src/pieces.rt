@@ -1,64 +1,47 @@
 //! Reading the text of a scaffold that comes in pieces.
 
-ghost use Rattle.std.specs.Prelude.{◌≡◌, ℕ, ◌++◌, ◌<◌, ◌≤◌, ◌^◌, [], List, None, IfOk, IfSome, IsOk, length};
-ghost use Rattle.dp_lines.specs.Allowed.{IsAllowed};
-ghost use Rattle.dp_lines.specs.RawLines.{raw_lines};
-ghost use Rattle.dp_lines.specs.Readers.{standing};
-ghost use Rattle.dp_parts.specs.Problems.{posed};
+ghost use Rattle.std.specs.Prelude.{◌≡◌, ◌≤◌, ◌^◌, [], IfOk};
 ghost use Rattle.dp_scaffold.specs.Gathering.{scaffold_of};
-ghost use Rattle.dp_scaffold.specs.Pieces.{AreLeft, IsBehind, IsDue, IsGathered, IsNext, IsTaken, IsUnrefused, Refuses};
+ghost use Rattle.dp_scaffold.specs.Pieces.{HasGathered, IsBehind, IsDue, IsUnrefused, Refuses, quiet};
 ghost use Rattle.dp_scaffold.specs.Texts.{IsScaffoldAnswer, give};
-ghost use Rattle.dp_scaffold.specs.declared.answer.ScaffoldAnswer.{ScaffoldAnswer};
-ghost use Rattle.dp_scaffold.specs.declared.pieces.Next.TheVariants.{Taken};
 
 use crate::{GatherFault, Gatherer, ScaffoldAnswer};
 use dp_domain::Memory;
-use dp_lines::{Limits, Line, LineFault, LineJudge, Reader, line_text};
+use dp_lines::{InPieces, Line, LineRefusal, LineTaker, line_text};
 use dp_parts::Problem;
 use std::alloc::Global;
 use std::marker::Model;
 
-/// The most bytes of a line and of a text: those of a log.
-const LIMITS: Limits = Limits {
-    line: 1 << 24,
-    total: 1 << 40,
-};
-
-/// The text of a scaffold of a problem that is read while it comes: each line as soon as its end has come.
+/// The text of a scaffold of a problem that is read line by line.
 #[derive(Drop)]
 pub struct ScaffoldReading<'p> {
     alloc: Global,
-    reader: Reader,
     gatherer: Gatherer<'p>,
 }
 
 impl<'p> Model for ScaffoldReading<'p> {
-    ghost use Rattle.dp_scaffold.specs.Pieces.{Going};
+    ghost use Rattle.dp_scaffold.specs.Answers.{Standing};
 
-    ghost Value = { Going };
+    ghost Value = { Standing };
 
-    ghost view = { λ j. record { problem = j.gatherer.problem; progress = j.gatherer.progress; reader = j.reader } };
+    ghost view = { λ j. j.gatherer };
 }
 
 impl<'p> ScaffoldReading<'p> {
-    /// Nothing of the text has come.
-    pub fn new(alloc: Global, problem: &'p Problem) -> Result<ScaffoldReading<'p>, Memory>
+    /// A text that is read while it comes, and of which nothing has come.
+    pub fn new(alloc: Global, problem: &'p Problem) -> Result<InPieces<ScaffoldReading<'p>>, Memory>
         ensures behind { IfOk result (λ reading. IsBehind reading []) }
-        ensures problem { IfOk result (λ reading. reading.problem ≡ problem.now) }
+        ensures problem { IfOk result (λ reading. reading.taker.problem ≡ problem.now) }
     {
         let gatherer = Gatherer::new(alloc, problem)?;
-        Ok(ScaffoldReading {
-            alloc,
-            reader: Reader::new(alloc, LIMITS),
-            gatherer,
-        })
+        Ok(InPieces::new(alloc, ScaffoldReading { alloc, gatherer }))
     }
 }
 
-impl<'p> LineJudge for ScaffoldReading<'p> {
+impl<'p> LineTaker for ScaffoldReading<'p> {
     type Answer = ScaffoldAnswer;
 
-    ghost behind = { IsBehind };
+    ghost took = { HasGathered };
 
     ghost due = { IsDue };
 
@@ -66,106 +49,35 @@ impl<'p> LineJudge for ScaffoldReading<'p> {
 
     ghost unrefused = { IsUnrefused };
 
-    fn feed(&mut self, piece: &[u8]) -> Result<Option<ScaffoldAnswer>, Memory> {
-        self.reader.feed(piece)?;
-        read_lines(self.alloc, &mut self.reader, &mut self.gatherer)
-    }
-
-    fn finish(self) -> Result<ScaffoldAnswer, Memory> {
-        let ScaffoldReading {
-            alloc,
-            mut reader,
-            mut gatherer,
-        } = self;
-        reader.end();
-        match read_lines(alloc, &mut reader, &mut gatherer)? {
-            Some(answer) => Ok(answer),
-            None => Ok(claimed(gatherer, reader.lines_seen())),
+    fn take(&mut self, number: u64, line: Line) -> Result<Option<ScaffoldAnswer>, Memory> {
+        match self.gatherer.take(number, &line) {
+            Ok(()) => Ok(None),
+            Err(GatherFault::Refused(refusal)) => {
+                let text = line_text(self.alloc, &line)?;
+                Ok(Some(ScaffoldAnswer::Refused(refusal, Some(text))))
+            }
+            Err(GatherFault::Memory) => Err(Memory),
         }
     }
 
-    ghost quiet = { λ j front h. h.quiet };
-}
-
-/// Reads the whole lines that are left, up to the first that is refused.
-fn read_lines(
-    alloc: Global,
-    reader: &mut Reader,
-    gatherer: &mut Gatherer,
-) -> Result<Option<ScaffoldAnswer>, Memory>
-    requires going { IsOk gatherer.old.progress }
-    ensures left { IfOk result (λ answer. (front : List ℕ) → IsGathered (posed gatherer.old.problem) front gatherer.old.progress reader.old →
-        AreLeft answer (posed gatherer.old.problem) front gatherer.new.progress reader.new) }
-    ensures problem { gatherer.new.problem ≡ gatherer.old.problem }
-    ensures ended { reader.new.ended ≡ reader.old.ended }
-{
-    loop {
-        match take_next(alloc, reader, gatherer)? {
-            Next::Taken => {}
-            Next::Ended => return Ok(None),
-            Next::Refused(answer) => return Ok(Some(answer)),
-        }
+    fn unread(&mut self, refusal: LineRefusal) -> ScaffoldAnswer {
+        ScaffoldAnswer::Unread(refusal)
     }
-}
 
-/// What the next line brings.
-#[derive(Debug, Drop)]
-enum Next {
-    /// The line was taken.
-    Taken,
-    /// There was none.
-    Ended,
-    /// It is refused, which is the answer.
-    Refused(ScaffoldAnswer),
-}
-
-/// Takes the next line.
-fn take_next(alloc: Global, reader: &mut Reader, gatherer: &mut Gatherer) -> Result<Next, Memory>
-    requires going { IsOk gatherer.old.progress }
-    ensures next { IfOk result (λ next. (front : List ℕ) → IsGathered (posed gatherer.old.problem) front gatherer.old.progress reader.old →
-        IsNext next (posed gatherer.old.problem) front gatherer.new.progress reader.new) }
-    ensures fewer { IfOk result (λ next. next ≡ Taken → length (raw_lines (standing reader.new)) < length (raw_lines (standing reader.old))) }
-    ensures going { IfOk result (λ next. next ≡ Taken → IsOk gatherer.new.progress) }
-    ensures problem { gatherer.new.problem ≡ gatherer.old.problem }
-    ensures ended { reader.new.ended ≡ reader.old.ended }
-{
-    match reader.line() {
-        Ok(Some((number, line))) => take_line(alloc, gatherer, number, &line),
-        Ok(None) => Ok(Next::Ended),
-        Err(LineFault::Refused(refusal)) => Ok(Next::Refused(ScaffoldAnswer::Unread(refusal))),
-        Err(LineFault::Memory) => Err(Memory),
+    fn finish(self, count: u64) -> ScaffoldAnswer {
+        claimed(self.gatherer, count)
     }
-}
 
-/// Takes a line.
-fn take_line(
-    alloc: Global,
-    gatherer: &mut Gatherer,
-    number: u64,
-    line: &Line,
-) -> Result<Next, Memory>
-    requires allowed { IsAllowed line.now }
-    requires going { IsOk gatherer.old.progress }
-    ensures taken { IfOk result (λ next. IsTaken next (posed gatherer.old.problem) gatherer.old.progress (number, line.now) gatherer.new.progress) }
-    ensures problem { gatherer.new.problem ≡ gatherer.old.problem }
-{
-    match gatherer.take(number, line) {
-        Ok(()) => Ok(Next::Taken),
-        Err(GatherFault::Refused(refusal)) => {
-            let text = line_text(alloc, line)?;
-            Ok(Next::Refused(ScaffoldAnswer::Refused(refusal, Some(text))))
-        }
-        Err(GatherFault::Memory) => Err(Memory),
-    }
+    ghost quiet = { λ j given front h e. quiet j given front h e };
 }
 
 /// The answer behind the last line.
-fn claimed(gatherer: Gatherer, lines: u64) -> ScaffoldAnswer
-    requires few { lines ≤ 2 ^ 62 }
-    ensures answer { result ≡ give (scaffold_of gatherer.entry.progress lines) }
+fn claimed(gatherer: Gatherer, count: u64) -> ScaffoldAnswer
+    requires few { count ≤ 2 ^ 62 }
+    ensures answer { result ≡ give (scaffold_of gatherer.entry.progress count) }
     ensures scaffold { IsScaffoldAnswer gatherer.entry.problem result }
 {
-    match gatherer.finish(lines) {
+    match gatherer.finish(count) {
         Ok(scaffold) => ScaffoldAnswer::Given(scaffold),
         Err(refusal) => ScaffoldAnswer::Refused(refusal, None),
     }

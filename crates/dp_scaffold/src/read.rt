@@ -6,7 +6,7 @@ ghost use Rattle.dp_scaffold.specs.Texts.{IsScaffoldAnswer, scaffold_text};
 
 use crate::{ScaffoldAnswer, ScaffoldReading};
 use dp_domain::Memory;
-use dp_lines::LineJudge;
+use dp_lines::judge_text;
 use dp_parts::Problem;
 use std::alloc::Global;
 
@@ -20,9 +20,5 @@ pub fn read_scaffold(
     ensures answer { IfOk result (λ answer. answer ≡ scaffold_text (posed problem.now) text.now) }
     ensures scaffold { IfOk result (IsScaffoldAnswer problem.now) }
 {
-    let mut reading = ScaffoldReading::new(alloc, problem)?;
-    match reading.feed(text)? {
-        Some(answer) => Ok(answer),
-        None => reading.finish(),
-    }
+    judge_text(ScaffoldReading::new(alloc, problem)?, text)
 }

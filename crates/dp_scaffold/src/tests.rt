@@ -6,7 +6,6 @@ ghost use Rattle.dp_parts.specs.Problems.{IsGoalOf};
 
 use super::*;
 use dp_domain::{Atom, Dom, Memory, Name, Op, State, VarId, Verdict};
-use dp_judge::{Judging, LogAnswer};
 use dp_lines::{Limits, Line, LineJudge, LineRefusal, Reader};
 use dp_parts::{Goal, Problem};
 use indexmap::IndexMap;
@@ -361,14 +360,6 @@ enum Told {
     Refused(u64),
 }
 
-fn of_log(answer: &LogAnswer) -> Told {
-    match answer {
-        LogAnswer::Accepted(_) => Told::Passed,
-        LogAnswer::Unread(refusal) => Told::Unread(*refusal),
-        LogAnswer::Refused(refusal, _) => Told::Refused(refusal.line),
-    }
-}
-
 fn of_scaffold(answer: &ScaffoldAnswer) -> Told {
     match answer {
         ScaffoldAnswer::Given(_) => Told::Passed,
@@ -408,20 +399,7 @@ const PIECES: [Piecewise; 13] = [
     (b"\n", 1, Told::Refused(2), None),
 ];
 
-// What is told of a short log in pieces, and of a scaffold.
-fn log_in_pieces(
-    alloc: Global,
-    text: &[u8],
-    size: usize,
-) -> Result<Option<(Told, Option<usize>)>, Memory> {
-    if text.len() > 1000 || size == 0 {
-        return Ok(None);
-    }
-    let problem = problem_of(alloc, goal_of(Least))?;
-    let (answer, came) = in_pieces(Judging::new(alloc, &problem)?, text, size)?;
-    Ok(Some((of_log(&answer), came)))
-}
-
+// What is told of a short text in pieces.
 fn scaffold_in_pieces(
     alloc: Global,
     text: &[u8],
@@ -439,10 +417,8 @@ fn scaffold_in_pieces(
 fn texts_in_pieces(rt: HostRuntime) -> Result<(), Fail> {
     for (place, (text, size, told, came)) in PIECES.iter().enumerate() {
         let wanted = Some((*told, *came));
-        let of_log = log_in_pieces(rt.alloc(), *text, *size)?;
-        let of_scaffold = scaffold_in_pieces(rt.alloc(), *text, *size)?;
-        assert_eq!(rt; of_log, wanted, "log {place}");
-        assert_eq!(rt; of_scaffold, wanted, "scaffold {place}");
+        let told = scaffold_in_pieces(rt.alloc(), *text, *size)?;
+        assert_eq!(rt; told, wanted, "text {place}");
     }
     Ok(())
 }

@@ -1,4 +1,4 @@
 pub mod Answers
 pub mod Literals
-pub mod Bringing
+pub mod Taking
 mod Pieced

@@ -1,22 +1,18 @@
 -- What is shown of a log: its steps, up to its end or its first refused line.
-use Rattle.std.specs.Prelude.{◌≡◌, ℕ, ◌^◌, Option, Some, None, List, [], ◌∷◌, ◌++◌}
+use Rattle.std.specs.Prelude.{◌≡◌, ℕ, Option, Some, None, List, [], ◌∷◌, ◌++◌}
 use Rattle.std.specs.Option.{option_map}
+pub use Rattle.dp_lines.specs.Driving.{limits}
 use Rattle.dp_lines.specs.Lines.{lines}
 use Rattle.dp_lines.specs.SoFar.{lines_so_far}
 use Rattle.dp_lines.specs.Spelling.{line_text}
 use Rattle.dp_lines.specs.declared.line.Line.{Line}
 use Rattle.dp_lines.specs.declared.refusal.LineRefusal.{LineRefusal}
-use Rattle.dp_lines.specs.declared.refusal.Limits.{Limits}
 use Rattle.dp_checker.specs.declared.refusal.Why.{Why}
 use Rattle.dp_show.specs.Named.{Atoms}
 use Rattle.dp_show.specs.Showing.{after, refusal, shown_line}
 use Rattle.dp_show.specs.declared.shown.Refusal.{Refusal}
 use Rattle.dp_show.specs.declared.shown.Refusal.TheVariants.{Unread, Refused}
 use Rattle.dp_show.specs.declared.shown.Shown.{Shown}
-
--- the most bytes of a line and of a log
-abbrev pub limits : Limits
-limits = record { line = 2 ^ 24; total = 2 ^ 40 }
 
 -- the text leads what is shown
 abbrev pub led_by : List ℕ → Shown → Shown

@@ -14,7 +14,7 @@ use crate::spell::push_line;
 use crate::{Refusal, Showing, Shown};
 use dp_checker::{StepRefusal, Why};
 use dp_domain::Memory;
-use dp_lines::{Claim, Line, LineJudge, line_text};
+use dp_lines::{Claim, Line, judge_text, line_text};
 use indexmap::IndexMap;
 use std::alloc::Global;
 
@@ -24,11 +24,7 @@ pub fn show_log(alloc: Global, log: &[u8]) -> Result<Shown, Memory>
     requires { length log.now ≤ 2 ^ 62 }
     ensures shown { IfOk result (λ shown. shown ≡ shown_log log.now) }
 {
-    let mut showing = Showing::new(alloc)?;
-    match showing.feed(log)? {
-        Some(shown) => Ok(shown),
-        None => showing.finish(),
-    }
+    judge_text(Showing::new(alloc)?, log)
 }
 
 /// Shows a line, unless a test refuses it.
