@@ -2,7 +2,7 @@
 use Rattle.std.specs.Prelude.{◌≡◌, ℕ, ◌≤◌, ◌<◌, ◌+◌, ◌^◌, Option, Some, None, Result, Ok, Err, List, length}
 use Rattle.std.proofs.Common.{refl, subst, arith}
 use Rattle.dp_desk.specs.Channel.{Channel, Files, IsAtEnd}
-use Rattle.dp_judge.proofs.AcceptLaws.{read_small}
+use Rattle.dp_lines.proofs.SizeLaws.{read_small}
 use Rattle.dp_judge.specs.Logs.{judged_log, limits}
 use Rattle.dp_judge.specs.declared.answer.LogAnswer.TheVariants.{Accepted as AcceptedLog}
 use Rattle.dp_lines.specs.Lines.{Lines, lines}

@@ -3,7 +3,7 @@ use Rattle.std.specs.Prelude.{◌≡◌, ℕ, ◌+◌, ◌<◌, ◌≤◌, ◌^�
 use Rattle.std.proofs.Common.{refl, subst, arith}
 use Rattle.dp_checker.specs.declared.refusal.Why.{Why}
 use Rattle.dp_desk.specs.Channel.{Channel, IsAtEnd}
-use Rattle.dp_judge.proofs.AcceptLaws.{read_small}
+use Rattle.dp_lines.proofs.SizeLaws.{read_small}
 use Rattle.dp_lines.specs.Lines.{lines}
 use Rattle.dp_lines.specs.declared.line.Line.{Line}
 use Rattle.dp_lines.specs.declared.refusal.LineRefusal.{LineRefusal}
