@@ -22,6 +22,3 @@ pub use index::Index;
 pub use laws::{runs, turns};
 pub use part_id::PartId;
 pub use turn::Turn;
-
-#[cfg(test)]
-mod tests;
