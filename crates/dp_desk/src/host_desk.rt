@@ -14,6 +14,9 @@ use std::{fs, io};
 #[derive(Drop)]
 pub struct HostDesk<'a, R: Files + Print> {
     rt: &'a R,
+    // They hold the numbers of standard streams that were closed when the program started: no file that is opened later
+    // takes one of them, and so becomes the answer's.
+    held: [Option<R::File>; 3],
     model: Option<R::File>,
     log: Option<R::File>,
     first: Option<R::File>,
@@ -38,6 +41,7 @@ impl<'a, R: Files + Print> HostDesk<'a, R> {
     {
         HostDesk {
             rt,
+            held: [hold(rt), hold(rt), hold(rt)],
             model: None,
             log: None,
             first: None,
@@ -108,6 +112,11 @@ impl<R: Files + Print> Desk for HostDesk<'_, R> {
             None => Err(count_fault(&mut self.faults_out)),
         }
     }
+}
+
+// An open file that says nothing, if the machine has one: it takes the lowest number that is free.
+fn hold<R: Files>(rt: &R) -> Option<R::File> {
+    fs::open(rt, "/dev/null").ok()
 }
 
 // Reads from a file that was opened.
