@@ -1,5 +1,5 @@
 -- Steps of the union of intervals: sorted by where they begin, each joins the last or follows it.
-use Rattle.std.proofs.Common.{◌≡◌, ℕ, ◌+◌, ◌<◌, ◌≤◌, false, ◌⊎◌, List, [], ◌∷◌, ◌++◌, length, get_or, take, ℤ, pos, ◌+ℤ◌, ◌-ℤ◌, ◌≤ℤ◌, ◌<ℤ◌, Option, Some, None, IsPermutation, option_to_list, refl, sym, ◌∙◌, ap, subst, inl, inr, arith}
+use Rattle.std.proofs.Common.{◌≡◌, ℕ, ◌+◌, ◌<◌, ◌≤◌, false, ◌⊎◌, List, [], ◌∷◌, ◌++◌, length, get_or, take, drop, ℤ, pos, ◌+ℤ◌, ◌-ℤ◌, ◌≤ℤ◌, ◌<ℤ◌, Option, Some, None, IsPermutation, option_to_list, refl, sym, ◌∙◌, ap, subst, inl, inr, arith}
 use Rattle.std.specs.Int.{int_max}
 use Rattle.std.specs.declared.cmp.Ordering.{Ordering}
 use Rattle.std.specs.declared.cmp.Ordering.TheVariants.{Less, Equal, Greater}
@@ -8,11 +8,11 @@ use Rattle.std.specs.Cmp.{int_ranks}
 use Rattle.std.specs.List.Sorted.{IsSorted}
 use Rattle.std.proofs.lemmas.Int.{ints}
 use Rattle.std.proofs.lemmas.Bool.{false≢true}
-use Rattle.std.proofs.lemmas.List.{append-nil, take_all, take_more}
+use Rattle.std.proofs.lemmas.List.{append-nil, drop_all, drop_more, take_all, take_more}
 use Rattle.std.proofs.lemmas.List.Sorted.{All-permutation, Contains-permutation, IsPermutation-sym}
 use Rattle.dp_base.specs.Lists.{Among, Each}
 use Rattle.dp_base.proofs.Lists.{All-from_each, Among-append_cases, Among-from_contains, Contains-from_among, Each-append, Each-append_parts, Each-from_all, Each-weaker}
-use Rattle.dp_domain.specs.Intervals.{AreBegun, HaveMore, HaveSame, Joins}
+use Rattle.dp_domain.specs.Intervals.{AreBegun, Follows, HaveMore, HaveSame, Joins}
 use Rattle.dp_domain.specs.Sets.{AreApart, AreMaximal, Collects, HasSmallEnds, IsSmall, LiesBetween, LiesInOne, expand}
 use Rattle.dp_domain.proofs.AtomLaws.{order_cases}
 use Rattle.dp_domain.proofs.ExpandLaws.{expand-all, expand-only}
@@ -161,6 +161,29 @@ join_first old rest now o ends s h e f z n =
     nothing : (xs : List (ℤ × ℤ)) → length xs ≡ 0 → xs ≡ []
     nothing [] e = refl
     nothing (x ∷ xs) e = absurd (omega arith)
+
+-- nothing is left where nothing was
+pub none_left : (old rest : List (ℤ × ℤ)) → (0 < length old → false ≡ true) → old ≡ rest ++ [] → length rest ≡ 0
+none_left old [] v e = refl
+none_left old (x ∷ xs) v e = absurd (false≢true (v (subst (λ (zs : List (ℤ × ℤ)). 0 < length zs) (sym e) (omega arith))))
+
+-- ---- intervals that are apart as they stand
+
+-- they are apart, and one number or more lies between the end and each
+abbrev pub AreBehind : ℤ → List (ℤ × ℤ) → Type 0
+AreBehind end is = Each (λ j. (end +ℤ pos 1) <ℤ j.0) is × AreApart is
+
+-- one that follows the end, before those behind it
+pub behind_next : (is : List (ℤ × ℤ)) (i : ℕ) (end : ℤ) → i < length is → Follows end (get_or is i (pos 0, pos 0)) → AreBehind (get_or is i (pos 0, pos 0)).1 (drop (i + 1) is) → AreBehind end (drop i is)
+behind_next is i end h f b =
+    let j = get_or is i (pos 0, pos 0) in
+    let low = f.0 in
+    let some = f.1 in
+    subst (AreBehind end) (sym (drop_more is i (pos 0, pos 0) h))
+    ((f.0, Each-weaker (λ (k : ℤ × ℤ). (j.1 +ℤ pos 1) <ℤ k.0) (λ (k : ℤ × ℤ). (end +ℤ pos 1) <ℤ k.0) (λ k l. omega (arith, ints)) (drop (i + 1) is) b.0), (f.1, b))
+
+pub behind_none : (is : List (ℤ × ℤ)) (i : ℕ) (end : ℤ) → length is ≤ i → AreBehind end (drop i is)
+behind_none is i end h = subst (AreBehind end) (sym (drop_all is i h)) (tt, tt)
 
 -- ---- the loop
 

@@ -1,5 +1,5 @@
 -- Steps on intervals: what an atom keeps of them, what they have in common, the gaps between them, their union.
-use Rattle.std.specs.Prelude.{ℕ, ◌^◌, Bool, ◌&&◌, ◌==◌, ◌⊎◌, if◌then◌else◌, List, [], ◌∷◌, ◌++◌, ℤ, pos, neg_ℤ, ◌+ℤ◌, ◌-ℤ◌, ◌≤ℤ◌, int_le}
+use Rattle.std.specs.Prelude.{ℕ, ◌^◌, Bool, ◌&&◌, ◌==◌, ◌⊎◌, if◌then◌else◌, List, [], ◌∷◌, ◌++◌, ℤ, pos, neg_ℤ, ◌+ℤ◌, ◌-ℤ◌, ◌≤ℤ◌, ◌<ℤ◌, int_le}
 use Rattle.std.specs.Int.{int_max, int_min}
 use Rattle.std.specs.List.{flat_map}
 use Rattle.dp_base.specs.Lists.{Each}
@@ -64,6 +64,10 @@ behind next (i ∷ is) = behind (i.1 +ℤ pos 1) is
 -- what lies in none of the intervals, from the least number that sets have to beyond the greatest
 abbrev pub outside : List (ℤ × ℤ) → List (ℤ × ℤ)
 outside is = gaps_from lowest is ++ interval (behind lowest is) (pos (10 ^ 9) +ℤ pos 1)
+
+-- the interval has a number, and one or more lie between the end and it
+abbrev pub Follows : ℤ → ℤ × ℤ → Type 0
+Follows end i = ((end +ℤ pos 1) <ℤ i.0) × (i.0 ≤ℤ i.1)
 
 -- the intervals have the numbers of the others, and no more
 pub record HaveSame (is js : List (ℤ × ℤ)) : Type 0 where

@@ -13,14 +13,15 @@ use crate::intervals::{
     common, failing, from, gaps_from, merged, met, numbers, outside, reach, share, single, up_to,
 };
 use crate::{Atom, Memory, Op, VarId};
+use smallvec::SmallVec;
 use std::alloc::Global;
 use std::marker::Model;
 
 /// A finite set of integers within ±10^9, seen as its values in ascending order. It is kept as its maximal
-/// intervals in ascending order, each by its first and its last number.
+/// intervals in ascending order, each by its first and its last number; up to two lie in the set's own place.
 #[derive(Debug, Drop)]
 pub struct Dom {
-    intervals: Vec<(i64, i64)>,
+    intervals: SmallVec<(i64, i64), 2>,
 }
 
 impl Model for Dom {
@@ -53,7 +54,7 @@ impl Dom {
         ensures domain { IfOk result IsDomain }
         ensures numbers { IfOk result (λ d. Collects d (LiesInOne intervals.now)) }
     {
-        let given = Vec::from_slice(alloc, intervals)?;
+        let given = SmallVec::from_slice(alloc, intervals)?;
         let intervals = merged(given)?;
         Ok(Dom { intervals })
     }
@@ -62,9 +63,9 @@ impl Dom {
     pub fn copy(&self) -> Result<Dom, Memory>
         ensures { IfOk result (λ d. d ≡ self.now) }
     {
-        Ok(Dom {
-            intervals: self.intervals.clone()?,
-        })
+        let alloc = *self.intervals.allocator();
+        let intervals = SmallVec::from_slice(alloc, self.intervals.as_slice())?;
+        Ok(Dom { intervals })
     }
 
     /// Whether it has no number.

@@ -1,26 +1,35 @@
 // Lists of intervals, each given by its first and its last number.
 
-ghost use Rattle.std.specs.Prelude.{◌≡◌, ◌++◌, ◌-ℤ◌, int_le, pos, filter, IfOk, OnOk};
+ghost use Rattle.std.specs.Prelude.{◌≡◌, ◌++◌, ◌-ℤ◌, int_le, pos, filter, IfOk, IsTrue, OnOk};
 ghost use Rattle.std.specs.List.{flat_map, list_any};
 ghost use Rattle.dp_base.specs.Lists.{Each};
 ghost use Rattle.dp_domain.specs.Atoms.{IsNameable};
-ghost use Rattle.dp_domain.specs.Intervals.{AreBegun, HaveSame, Joins, after, before, behind, common, failing_on, gaps_from, interval, lowest, met, met_of, outside, overlap, reaches};
+ghost use Rattle.dp_domain.specs.Intervals.{AreBegun, Follows, HaveSame, Joins, after, before, behind, common, failing_on, gaps_from, interval, lowest, met, met_of, outside, overlap, reaches};
 ghost use Rattle.dp_domain.specs.Sets.{AreApart, AreMaximal, HasSmallEnds, IsSmall, expand, numbers_between};
 
 use crate::{Atom, Memory, Op, VarId};
+use smallvec::SmallVec;
 use std::alloc::Global;
 
 /// The interval from the first number to the last; none where the first exceeds the last.
-pub(crate) fn single(alloc: Global, first: i64, last: i64) -> Result<Vec<(i64, i64)>, Memory>
+pub(crate) fn single(
+    alloc: Global,
+    first: i64,
+    last: i64,
+) -> Result<SmallVec<(i64, i64), 2>, Memory>
     ensures { IfOk result (λ intervals. intervals.items ≡ interval first last) }
 {
-    let mut intervals = Vec::new(alloc);
+    let mut intervals = SmallVec::new(alloc);
     push_interval(&mut intervals, first, last)?;
     Ok(intervals)
 }
 
 /// Adds the interval from the first number to the last, if it has a number.
-fn push_interval(intervals: &mut Vec<(i64, i64)>, first: i64, last: i64) -> Result<(), Memory>
+fn push_interval(
+    intervals: &mut SmallVec<(i64, i64), 2>,
+    first: i64,
+    last: i64,
+) -> Result<(), Memory>
     ensures { OnOk result (intervals.new.items ≡ intervals.old.items ++ interval first last) }
 {
     if first <= last {
@@ -34,16 +43,20 @@ pub(crate) fn met(
     alloc: Global,
     intervals: &[(i64, i64)],
     atom: Atom,
-) -> Result<Vec<(i64, i64)>, Memory>
+) -> Result<SmallVec<(i64, i64), 2>, Memory>
     ensures { IfOk result (λ kept. kept.items ≡ met atom intervals.now) }
 {
-    let mut kept = Vec::new(alloc);
+    let mut kept = SmallVec::new(alloc);
     push_met(&mut kept, intervals, atom)?;
     Ok(kept)
 }
 
 /// Adds what of the intervals meets the atom.
-fn push_met(kept: &mut Vec<(i64, i64)>, intervals: &[(i64, i64)], atom: Atom) -> Result<(), Memory>
+fn push_met(
+    kept: &mut SmallVec<(i64, i64), 2>,
+    intervals: &[(i64, i64)],
+    atom: Atom,
+) -> Result<(), Memory>
     ensures { OnOk result (kept.new.items ≡ kept.old.items ++ met atom intervals.now) }
 {
     for interval in intervals {
@@ -53,7 +66,11 @@ fn push_met(kept: &mut Vec<(i64, i64)>, intervals: &[(i64, i64)], atom: Atom) ->
 }
 
 /// Adds what of the interval meets the atom.
-fn push_met_of(kept: &mut Vec<(i64, i64)>, interval: (i64, i64), atom: Atom) -> Result<(), Memory>
+fn push_met_of(
+    kept: &mut SmallVec<(i64, i64), 2>,
+    interval: (i64, i64),
+    atom: Atom,
+) -> Result<(), Memory>
     ensures { OnOk result (kept.new.items ≡ kept.old.items ++ met_of atom.op atom.value interval) }
 {
     let (first, last) = interval;
@@ -67,7 +84,11 @@ fn push_met_of(kept: &mut Vec<(i64, i64)>, interval: (i64, i64), atom: Atom) -> 
 }
 
 /// Adds what of the interval is not the value.
-fn push_around(kept: &mut Vec<(i64, i64)>, interval: (i64, i64), value: i64) -> Result<(), Memory>
+fn push_around(
+    kept: &mut SmallVec<(i64, i64), 2>,
+    interval: (i64, i64),
+    value: i64,
+) -> Result<(), Memory>
     requires { IsNameable Op.Ne value }
     ensures { OnOk result (kept.new.items ≡ kept.old.items ++ (before value interval ++ after value interval)) }
 {
@@ -76,7 +97,11 @@ fn push_around(kept: &mut Vec<(i64, i64)>, interval: (i64, i64), value: i64) -> 
 }
 
 /// Adds what of the interval is less than the value.
-fn push_before(kept: &mut Vec<(i64, i64)>, interval: (i64, i64), value: i64) -> Result<(), Memory>
+fn push_before(
+    kept: &mut SmallVec<(i64, i64), 2>,
+    interval: (i64, i64),
+    value: i64,
+) -> Result<(), Memory>
     requires { IsNameable Op.Ne value }
     ensures { OnOk result (kept.new.items ≡ kept.old.items ++ before value interval) }
 {
@@ -85,7 +110,11 @@ fn push_before(kept: &mut Vec<(i64, i64)>, interval: (i64, i64), value: i64) -> 
 }
 
 /// Adds what of the interval is greater than the value.
-fn push_after(kept: &mut Vec<(i64, i64)>, interval: (i64, i64), value: i64) -> Result<(), Memory>
+fn push_after(
+    kept: &mut SmallVec<(i64, i64), 2>,
+    interval: (i64, i64),
+    value: i64,
+) -> Result<(), Memory>
     requires { IsNameable Op.Ne value }
     ensures { OnOk result (kept.new.items ≡ kept.old.items ++ after value interval) }
 {
@@ -99,10 +128,10 @@ pub(crate) fn failing(
     intervals: &[(i64, i64)],
     var: VarId,
     atoms: &[Atom],
-) -> Result<Vec<(i64, i64)>, Memory>
+) -> Result<SmallVec<(i64, i64), 2>, Memory>
     ensures { IfOk result (λ kept. kept.items ≡ flat_map (failing_on var intervals.now) atoms.now) }
 {
-    let mut kept = Vec::new(alloc);
+    let mut kept = SmallVec::new(alloc);
     for atom in atoms {
         push_failing(&mut kept, intervals, var, *atom)?;
     }
@@ -111,7 +140,7 @@ pub(crate) fn failing(
 
 /// Adds what of the intervals fails the atom, where it is on the variable.
 fn push_failing(
-    kept: &mut Vec<(i64, i64)>,
+    kept: &mut SmallVec<(i64, i64), 2>,
     intervals: &[(i64, i64)],
     var: VarId,
     atom: Atom,
@@ -172,11 +201,11 @@ pub(crate) fn common(
     alloc: Global,
     intervals: &[(i64, i64)],
     others: &[(i64, i64)],
-) -> Result<Vec<(i64, i64)>, Memory>
+) -> Result<SmallVec<(i64, i64), 2>, Memory>
     requires { AreApart others.now }
     ensures { IfOk result (λ kept. kept.items ≡ common intervals.now others.now) }
 {
-    let mut kept = Vec::new(alloc);
+    let mut kept = SmallVec::new(alloc);
     for interval in intervals {
         push_common(&mut kept, *interval, others)?;
     }
@@ -185,7 +214,7 @@ pub(crate) fn common(
 
 /// Adds what the interval has in common with the others.
 fn push_common(
-    kept: &mut Vec<(i64, i64)>,
+    kept: &mut SmallVec<(i64, i64), 2>,
     interval: (i64, i64),
     others: &[(i64, i64)],
 ) -> Result<(), Memory>
@@ -197,7 +226,7 @@ fn push_common(
 
 /// Adds what the interval has in common with each of the others.
 fn push_overlaps(
-    kept: &mut Vec<(i64, i64)>,
+    kept: &mut SmallVec<(i64, i64), 2>,
     interval: (i64, i64),
     others: &[(i64, i64)],
 ) -> Result<(), Memory>
@@ -211,7 +240,7 @@ fn push_overlaps(
 
 /// Adds what the two intervals have in common.
 fn push_overlap(
-    kept: &mut Vec<(i64, i64)>,
+    kept: &mut SmallVec<(i64, i64), 2>,
     interval: (i64, i64),
     other: (i64, i64),
 ) -> Result<(), Memory>
@@ -225,11 +254,11 @@ pub(crate) fn gaps_from(
     alloc: Global,
     start: i64,
     intervals: &[(i64, i64)],
-) -> Result<Vec<(i64, i64)>, Memory>
+) -> Result<SmallVec<(i64, i64), 2>, Memory>
     requires { Each HasSmallEnds intervals.now }
     ensures { IfOk result (λ gaps. gaps.items ≡ gaps_from start intervals.now) }
 {
-    let mut gaps = Vec::new(alloc);
+    let mut gaps = SmallVec::new(alloc);
     let mut next = start;
     for (first, last) in intervals {
         push_gap(&mut gaps, next, *first)?;
@@ -239,7 +268,7 @@ pub(crate) fn gaps_from(
 }
 
 /// Adds the interval from the first number to the one before the end.
-fn push_gap(gaps: &mut Vec<(i64, i64)>, first: i64, end: i64) -> Result<(), Memory>
+fn push_gap(gaps: &mut SmallVec<(i64, i64), 2>, first: i64, end: i64) -> Result<(), Memory>
     requires { IsSmall end }
     ensures { OnOk result (gaps.new.items ≡ gaps.old.items ++ interval first (end -ℤ pos 1)) }
 {
@@ -250,8 +279,14 @@ const LOWEST: i64 = -1_000_000_000;
 
 const BEYOND: i64 = 1_000_000_001;
 
+/// A number between which and each that a set has one or more lie.
+const BEFORE_ALL: i64 = -1_000_000_002;
+
 /// What lies in none of the intervals, from the least number that sets have to beyond the greatest.
-pub(crate) fn outside(alloc: Global, intervals: &[(i64, i64)]) -> Result<Vec<(i64, i64)>, Memory>
+pub(crate) fn outside(
+    alloc: Global,
+    intervals: &[(i64, i64)],
+) -> Result<SmallVec<(i64, i64), 2>, Memory>
     requires { Each HasSmallEnds intervals.now }
     ensures { IfOk result (λ gaps. gaps.items ≡ outside intervals.now) }
 {
@@ -272,22 +307,60 @@ fn behind(intervals: &[(i64, i64)]) -> i64
 }
 
 /// The maximal intervals of the numbers of these intervals.
-pub(crate) fn merged(intervals: Vec<(i64, i64)>) -> Result<Vec<(i64, i64)>, Memory>
+pub(crate) fn merged(intervals: SmallVec<(i64, i64), 2>) -> Result<SmallVec<(i64, i64), 2>, Memory>
+    requires { Each HasSmallEnds intervals.items }
+    ensures maximal { IfOk result (λ merged. AreMaximal merged.items) }
+    ensures same { IfOk result (λ merged. HaveSame intervals.items merged.items) }
+{
+    if are_apart(intervals.as_slice()) {
+        Ok(intervals)
+    } else {
+        united(intervals)
+    }
+}
+
+/// Whether they are known to be maximal as they stand.
+fn are_apart(intervals: &[(i64, i64)]) -> bool
+    requires { Each HasSmallEnds intervals.now }
+    ensures { IsTrue result → AreApart intervals.now }
+{
+    let mut end = BEFORE_ALL;
+    for interval in intervals {
+        if !follows(end, *interval) {
+            return false;
+        }
+        end = interval.1;
+    }
+    true
+}
+
+/// Whether the interval has a number, and one or more lie between the end and it.
+fn follows(end: i64, interval: (i64, i64)) -> bool
+    requires { HasSmallEnds interval }
+    ensures { IsTrue result → Follows end interval }
+{
+    let (first, last) = interval;
+    end < first - 1 && first <= last
+}
+
+/// The maximal intervals of the numbers of these intervals, in whatever order they stand.
+fn united(intervals: SmallVec<(i64, i64), 2>) -> Result<SmallVec<(i64, i64), 2>, Memory>
     requires { Each HasSmallEnds intervals.items }
     ensures maximal { IfOk result (λ merged. AreMaximal merged.items) }
     ensures same { IfOk result (λ merged. HaveSame intervals.items merged.items) }
 {
     let mut sorted = intervals;
     sorted.sort_unstable();
-    let mut merged = Vec::new(*sorted.allocator());
-    for interval in &sorted {
+    let mut merged = SmallVec::new(*sorted.allocator());
+    let ordered = sorted.as_slice();
+    for interval in ordered {
         join(&mut merged, *interval)?;
     }
     Ok(merged)
 }
 
 /// Joins an interval that begins no earlier than the others.
-fn join(merged: &mut Vec<(i64, i64)>, interval: (i64, i64)) -> Result<(), Memory>
+fn join(merged: &mut SmallVec<(i64, i64), 2>, interval: (i64, i64)) -> Result<(), Memory>
     requires begun { AreBegun interval.0 merged.old.items }
     requires small { HasSmallEnds interval }
     ensures { OnOk result (Joins merged.old.items merged.new.items interval) }

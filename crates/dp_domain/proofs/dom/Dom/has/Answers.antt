@@ -10,12 +10,12 @@ use Rattle.dp_domain.proofs.ReachSteps.{has_all, has_only}
 use Rattle.dp_domain.proofs.dom.Dom.has.Goals as goal
 
 pub reach-requires : goal.reach-requires
-reach-requires c = subst AreApart (sym c.as_slice.ensures.value) c.self.invariant.apart
+reach-requires c = subst AreApart (sym c.as_slice.ensures) c.self.invariant.apart
 
 pub returns : goal.returns
 returns c =
     let number = to_z w64 (of_z w64 c.args.number) in
-    let found = c.reach.ensures ∙ ap (λ (is : List (ℤ × ℤ)). list_any (reaches (number, number)) is) c.as_slice.ensures.value in (
+    let found = c.reach.ensures ∙ ap (λ (is : List (ℤ × ℤ)). list_any (reaches (number, number)) is) c.as_slice.ensures in (
       has_only c.self.inside.intervals.items c.args.number number c.args.self.now c.reach.result c.self.invariant.apart c.self.view_is (omega (arith, ints)) found,
       has_all c.self.inside.intervals.items c.args.number number c.args.self.now c.reach.result c.self.invariant.apart c.self.view_is (omega (arith, ints)) found,
     )
