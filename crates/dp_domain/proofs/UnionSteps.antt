@@ -6,6 +6,7 @@ use Rattle.std.specs.declared.cmp.Ordering.TheVariants.{Less, Equal, Greater}
 use Rattle.std.specs.Ordering.{MatchOrdering, int_cmp, is_lt, ordering_then}
 use Rattle.std.specs.Cmp.{int_ranks}
 use Rattle.std.specs.List.Sorted.{IsSorted}
+use Rattle.std.specs.Option.{IsSome}
 use Rattle.std.proofs.lemmas.Int.{ints}
 use Rattle.std.proofs.lemmas.Bool.{false≢true}
 use Rattle.std.proofs.lemmas.List.{append-nil, drop_all, drop_more, take_all, take_more}
@@ -163,9 +164,9 @@ join_first old rest now o ends s h e f z n =
     nothing (x ∷ xs) e = absurd (omega arith)
 
 -- nothing is left where nothing was
-pub none_left : (old rest : List (ℤ × ℤ)) → (0 < length old → false ≡ true) → old ≡ rest ++ [] → length rest ≡ 0
-none_left old [] v e = refl
-none_left old (x ∷ xs) v e = absurd (false≢true (v (subst (λ (zs : List (ℤ × ℤ)). 0 < length zs) (sym e) (omega arith))))
+pub none_left : (old rest : List (ℤ × ℤ)) (o : Option (ℤ × ℤ)) → o ≡ None → (0 < length old → IsSome o) → old ≡ rest ++ option_to_list o → length rest ≡ 0
+none_left old [] o n v e = refl
+none_left old (x ∷ xs) o n v e = absurd (false≢true (subst IsSome n (v (subst (λ (zs : List (ℤ × ℤ)). 0 < length zs) (sym e) (omega arith)))))
 
 -- ---- intervals that are apart as they stand
 
@@ -180,10 +181,10 @@ behind_next is i end h f b =
     let low = f.0 in
     let some = f.1 in
     subst (AreBehind end) (sym (drop_more is i (pos 0, pos 0) h))
-    ((f.0, Each-weaker (λ (k : ℤ × ℤ). (j.1 +ℤ pos 1) <ℤ k.0) (λ (k : ℤ × ℤ). (end +ℤ pos 1) <ℤ k.0) (λ k l. omega (arith, ints)) (drop (i + 1) is) b.0), (f.1, b))
+    ((f.0, Each-weaker (λ (k : ℤ × ℤ). (j.1 +ℤ pos 1) <ℤ k.0) (λ (k : ℤ × ℤ). (end +ℤ pos 1) <ℤ k.0) (λ k l. omega (arith, ints)) (drop (i + 1) is) b.0), (f.1, b.0, b.1))
 
 pub behind_none : (is : List (ℤ × ℤ)) (i : ℕ) (end : ℤ) → length is ≤ i → AreBehind end (drop i is)
-behind_none is i end h = subst (AreBehind end) (sym (drop_all is i h)) (tt, tt)
+behind_none is i end h = subst (AreBehind end) (sym (drop_all i is h)) (tt, tt)
 
 -- ---- the loop
 

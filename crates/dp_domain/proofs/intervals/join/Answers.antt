@@ -22,4 +22,4 @@ returns-in_ok-push-in-Some-2-2 c =
 pub returns-in_ok-push-in-None : goal.returns-in_ok-push-in-None
 returns-in_ok-push-in-None c =
     let some = c.if-first-last.false in
-    join_first _ _ _ _ c.args.interval c.requires.small (omega (arith, ints)) c.pop.ensures.items c.in-None.is (none_left c.args.merged.now.items c.pop.new.self.items c.pop.ensures.variant.1 c.pop.ensures.items) c.in_ok-push-in-None.ensures.ok
+    join_first _ _ _ _ c.args.interval c.requires.small (omega (arith, ints)) c.pop.ensures.items c.in-None.is (none_left c.args.merged.now.items c.pop.new.self.items c.pop.result c.in-None.is c.pop.ensures.variant.1 c.pop.ensures.items) c.in_ok-push-in-None.ensures.ok
