@@ -6,7 +6,7 @@ use Rattle.std.proofs.lemmas.List.{drop-drop, get_or-drop, length-drop}
 use Rattle.std.proofs.lemmas.List.Sums.{prefix_len_stops}
 use Rattle.dp_base.specs.Names.{is_first, is_later}
 use Rattle.dp_lines.specs.Parts.{is_done}
-use Rattle.dp_lines.specs.Words.{Word, begins_comparison, begins_negative, end_of, field_len, front_word, is_blank, is_decimal, is_inside_behind, opens, token_len, word_len, words_from}
+use Rattle.dp_lines.specs.Words.{Word, begins_comparison, begins_negative, end_of, field_len, front_word, is_blank, is_decimal, is_inside_behind, opens, token_len, word_len, words_at, words_from}
 
 -- the bytes of the word before say nothing
 pub words_behind : (inside : Bool) (at k : ℕ) (s : List ℕ) → words_from inside at k s ≡ words_from inside (at + k) 0 (drop k s)
@@ -54,25 +54,6 @@ words_behind_blanks inside at (b ∷ s) =
           let none = no_blank b s isnt in
           let e : at + 0 ≡ at = omega arith in
           sym (rw (none, e) refl)
-    ]
-
-eqb_suc : (a b : ℕ) → eqb (suc a) (suc b) ≡ eqb a b
-eqb_suc a b =
-    elim (cases_Bool (eqb a b)) [
-      | inl is ↦ let same : suc a ≡ suc b = ap suc (eqb-true a b is) in eq-eqb (suc a) (suc b) same ∙ sym is
-      | inr isnt ↦ let ne : suc a ≢ suc b = λ same. eqb-false a b isnt (omega arith) in ne_eqb (suc a) (suc b) ne ∙ sym isnt
-    ]
-
-eqb_zero : (n : ℕ) → eqb 0 (suc n) ≡ false
-eqb_zero n = let ne : 0 ≢ suc n = λ same. absurd (omega arith) in ne_eqb 0 (suc n) ne
-
--- whether none is left
-pub done_is : (inside : Bool) (at : ℕ) (s : List ℕ) → eqb (prefix_len is_blank s) (length s) ≡ is_done (words_from inside at 0 s)
-done_is inside at [] = sym (ap is_done (no_words inside at 0))
-done_is inside at (b ∷ s) =
-    elim (cases_Bool (is_blank b)) [
-      | inl is ↦ rw (one_blank b s is) (eqb_suc (prefix_len is_blank s) (length s) ∙ done_is inside (at + 1) s ∙ sym (ap is_done (word_stepped inside at b s true is)))
-      | inr isnt ↦ rw (no_blank b s isnt) (eqb_zero (length s) ∙ sym (ap is_done (word_stepped inside at b s false isnt)))
     ]
 
 passing : (p : ℕ → Bool) (b : ℕ) (s : List ℕ) → p b ≡ true → 1 ≤ prefix_len p (b ∷ s)
@@ -148,28 +129,66 @@ take_nothing : (k : ℕ) → take k (let none : List ℕ = [] in none) ≡ []
 take_nothing zero = refl
 take_nothing (suc k) = refl
 
--- what a span says of the words from a place on
-pub record IsSpan (inside : Bool) (at start end : ℕ) (behind : Bool) (line : List ℕ) : Type 0 where
-  pub place : (front_word (end_of line) (words_from inside (at + 1) 0 (drop at line))).at ≡ start + 1
-  pub text : (front_word (end_of line) (words_from inside (at + 1) 0 (drop at line))).text ≡ take (end - start) (drop start line)
-  pub rest : drop 1 (words_from inside (at + 1) 0 (drop at line)) ≡ words_from behind (end + 1) 0 (drop end line)
+-- a span at the line's end has no words
+pub words_at_end : (start end : ℕ) (inside : Bool) (line : List ℕ) → eqb start (length line) ≡ true → words_at start end inside line ≡ []
+words_at_end start end inside line is = rw is refl
+
+-- one before it begins with its own word
+pub words_at_word : (start end : ℕ) (inside : Bool) (line : List ℕ) → eqb start (length line) ≡ false →
+    words_at start end inside line ≡ record { at = start + 1; text = take (end - start) (drop start line) } ∷ words_from inside (end + 1) 0 (drop end line)
+words_at_word start end inside line isnt = rw isnt refl
+
+pub front_place : (start end : ℕ) (inside : Bool) (line : List ℕ) → (front_word (end_of line) (words_at start end inside line)).at ≡ start + 1
+front_place start end inside line =
+    elim (cases_Bool (eqb start (length line))) [
+      | inl is ↦ ap (λ (ws : List Word). (front_word (end_of line) ws).at) (words_at_end start end inside line is) ∙ ap (λ (k : ℕ). k + 1) (sym (eqb-true start (length line) is))
+      | inr isnt ↦ ap (λ (ws : List Word). (front_word (end_of line) ws).at) (words_at_word start end inside line isnt)
+    ]
+
+-- behind the end stands nothing
+behind_end : (at : ℕ) (line : List ℕ) → length line ≤ at → drop at line ≡ []
+behind_end at line h = empty (drop at line) (omega (arith, length-drop at line))
+
+pub front_text : (start end : ℕ) (inside : Bool) (line : List ℕ) → (front_word (end_of line) (words_at start end inside line)).text ≡ take (end - start) (drop start line)
+front_text start end inside line =
+    elim (cases_Bool (eqb start (length line))) [
+      | inl is ↦
+          let same : start ≡ length line = eqb-true start (length line) is in
+          ap (λ (ws : List Word). (front_word (end_of line) ws).text) (words_at_end start end inside line is)
+          ∙ sym (ap (λ (t : List ℕ). take (end - start) t) (behind_end start line (omega (arith, same))) ∙ take_nothing (end - start))
+      | inr isnt ↦ ap (λ (ws : List Word). (front_word (end_of line) ws).text) (words_at_word start end inside line isnt)
+    ]
+
+-- behind the front word stand the words from the span's end on
+pub front_rest : (start end : ℕ) (inside : Bool) (line : List ℕ) → start ≤ end → drop 1 (words_at start end inside line) ≡ words_from inside (end + 1) 0 (drop end line)
+front_rest start end inside line order =
+    elim (cases_Bool (eqb start (length line))) [
+      | inl is ↦
+          let same : start ≡ length line = eqb-true start (length line) is in
+          ap (λ (ws : List Word). drop 1 ws) (words_at_end start end inside line is)
+          ∙ sym (ap (λ (t : List ℕ). words_from inside (end + 1) 0 t) (behind_end end line (omega (arith, same, order))) ∙ no_words inside (end + 1) 0)
+      | inr isnt ↦ ap (λ (ws : List Word). drop 1 ws) (words_at_word start end inside line isnt)
+    ]
+
+-- whether none is left
+pub front_done : (start end : ℕ) (inside : Bool) (line : List ℕ) → eqb start (length line) ≡ is_done (words_at start end inside line)
+front_done start end inside line =
+    elim (cases_Bool (eqb start (length line))) [
+      | inl is ↦ is ∙ sym (ap is_done (words_at_end start end inside line is))
+      | inr isnt ↦ isnt ∙ sym (ap is_done (words_at_word start end inside line isnt))
+    ]
 
 pub empty_span : (inside : Bool) (at n : ℕ) (line r w : List ℕ) → r ≡ drop at line → n ≡ prefix_len is_blank r → w ≡ drop n r → length w < 1 → n ≤ length r → at ≤ length line →
-    IsSpan inside at (at + n) (at + n) inside line
+    words_from inside (at + 1) 0 (drop at line) ≡ words_at (at + n) (at + n) inside line
 empty_span inside at n line r w er en ew lt within order =
     let le : length r ≤ n = omega (arith, length-drop n r, ap (λ (t : List ℕ). length t) ew) in
     let total : at + n ≡ length line = omega (arith, length-drop at line, ap (λ (t : List ℕ). length t) er) in
     let short : length (drop n r) < 1 = omega (arith, length-drop n r) in
     let none : words_from inside (at + 1) 0 (drop at line) ≡ [] = rw (← er) (span_empty inside (at + 1) n r en short) in
-    let nothing : drop (at + n) line ≡ [] = empty (drop (at + n) line) (omega (arith, length-drop (at + n) line)) in
-    record {
-      place = ap (λ (ws : List Word). (front_word (end_of line) ws).at) none ∙ ap (λ (k : ℕ). k + 1) (sym total);
-      text = ap (λ (ws : List Word). (front_word (end_of line) ws).text) none ∙ sym (ap (λ (t : List ℕ). take (at + n - (at + n)) t) nothing ∙ take_nothing (at + n - (at + n)));
-      rest = ap (λ (ws : List Word). drop 1 ws) none ∙ sym (ap (λ (t : List ℕ). words_from inside (at + n + 1) 0 t) nothing ∙ no_words inside (at + n + 1) 0);
-    }
+    none ∙ sym (words_at_end (at + n) (at + n) inside line (eq-eqb (at + n) (length line) total))
 
 pub word_span : (inside : Bool) (at n len : ℕ) (behind : Bool) (line r w : List ℕ) → r ≡ drop at line → n ≡ prefix_len is_blank r → w ≡ drop n r → 1 ≤ length w →
-    len ≡ word_len inside w → behind ≡ is_inside_behind inside (get_or w 0 0) → IsSpan inside at (at + n) (at + n + len) behind line
+    len ≡ word_len inside w → behind ≡ is_inside_behind inside (get_or w 0 0) → words_from inside (at + 1) 0 (drop at line) ≡ words_at (at + n) (at + n + len) behind line
 word_span inside at n len behind line r w er en ew some el eb =
     let whole : w ≡ drop (at + n) line = ew ∙ ap (λ (t : List ℕ). drop n t) er ∙ drop-drop n at line in
     let z : at + n + len - (at + n) ≡ len = omega arith in
@@ -177,8 +196,7 @@ word_span inside at n len behind line r w er en ew some el eb =
     let x : at + 1 + n + len ≡ at + n + len + 1 = omega arith in
     let found : words_from inside (at + 1) 0 (drop at line) ≡ led inside (at + 1 + n) w = rw (← er) (span_word inside (at + 1) n r w en ew some) in
     let after : drop len w ≡ drop (at + n + len) line = ap (λ (t : List ℕ). drop len t) whole ∙ drop-drop len (at + n) line in
-    record {
-      place = ap (λ (ws : List Word). (front_word (end_of line) ws).at) found ∙ y;
-      text = ap (λ (ws : List Word). (front_word (end_of line) ws).text) found ∙ rw (z, ← el, ← whole) refl;
-      rest = ap (λ (ws : List Word). drop 1 ws) found ∙ rw (← el, ← eb, x, after) refl;
-    }
+    let ne : at + n ≢ length line = λ same. absurd (omega (arith, length-drop (at + n) line, ap (λ (t : List ℕ). length t) whole)) in
+    found
+    ∙ rw (← el, ← eb, x, y, after)
+    (sym (words_at_word (at + n) (at + n + len) behind line (ne_eqb (at + n) (length line) ne) ∙ rw (z, ← whole) refl))

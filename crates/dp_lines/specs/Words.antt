@@ -72,3 +72,9 @@ end_of line = length line + 1
 abbrev pub front_word : ℕ → List Word → Word
 front_word end [] = record { at = end; text = [] }
 front_word end (word ∷ words) = word
+
+-- the words from a span on: its own, which is none at the line's end, and those behind it
+abbrev pub words_at : ℕ → ℕ → Bool → List ℕ → List Word
+words_at start end inside line =
+    if start == length line then []
+    else record { at = start + 1; text = take (end - start) (drop start line) } ∷ words_from inside (end + 1) 0 (drop end line)

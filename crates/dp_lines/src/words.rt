@@ -81,7 +81,7 @@ fn is_inside_behind(inside: bool, first: u8) -> bool
 }
 
 /// Where a word begins and ends, and whether what stands behind it is within brackets.
-#[derive(Clone, Copy)]
+#[derive(Clone, Copy, Drop)]
 struct Span {
     start: usize,
     end: usize,
@@ -92,9 +92,7 @@ struct Span {
 fn next_span(line: &[u8], at: usize, inside: bool) -> Span
     requires within { at ≤ length line.now }
     ensures order { (at ≤ result.start) × (result.start ≤ result.end) × (result.end ≤ length line.now) }
-    ensures place { (spec.front_word (spec.end_of line.now) (spec.words_from inside (at + 1) 0 (drop at line.now))).at ≡ result.start + 1 }
-    ensures text { (spec.front_word (spec.end_of line.now) (spec.words_from inside (at + 1) 0 (drop at line.now))).text ≡ take (result.end - result.start) (drop result.start line.now) }
-    ensures rest { drop 1 (spec.words_from inside (at + 1) 0 (drop at line.now)) ≡ spec.words_from result.inside (result.end + 1) 0 (drop result.end line.now) }
+    ensures words { spec.words_from inside (at + 1) 0 (drop at line.now) ≡ spec.words_at result.start result.end result.inside line.now }
 {
     let (_, rest) = line.split_at(at);
     let blanks = blanks_len(rest);
@@ -114,24 +112,23 @@ fn next_span(line: &[u8], at: usize, inside: bool) -> Span
     }
 }
 
-/// A line whose words are taken one after the other.
+/// A line whose words are taken one after the other. Where the next one lies is kept, so that none is looked for twice.
 #[derive(Drop)]
 pub struct Words<'a> {
     line: &'a [u8],
-    at: usize,
-    inside: bool,
+    front: Span,
 }
 
 impl<'a> Model for Words<'a> {
-    ghost use Rattle.std.specs.Prelude.{◌+◌, ◌≤◌, ◌^◌, drop, length};
+    ghost use Rattle.std.specs.Prelude.{◌≤◌, ◌^◌, length};
     ghost use Rattle.dp_lines.specs.Parts.{Left};
-    ghost use Rattle.dp_lines.specs.Words.{end_of, words_from};
+    ghost use Rattle.dp_lines.specs.Words.{end_of, words_at};
 
     ghost Value = { Left };
 
-    ghost view = { λ w. record { words = words_from w.inside (w.at + 1) 0 (drop w.at w.line.now); end = end_of w.line.now } };
+    ghost view = { λ w. record { words = words_at w.front.start w.front.end w.front.inside w.line.now; end = end_of w.line.now } };
 
-    ghost invariant = { λ w. (w.at ≤ length w.line.now) × (length w.line.now ≤ 2 ^ 62) };
+    ghost invariant = { λ w. (w.front.start ≤ w.front.end) × (w.front.end ≤ length w.line.now) × (length w.line.now ≤ 2 ^ 62) };
 }
 
 impl<'a> Words<'a> {
@@ -142,8 +139,7 @@ impl<'a> Words<'a> {
     {
         Words {
             line,
-            at: 0,
-            inside: false,
+            front: next_span(line, 0, false),
         }
     }
 
@@ -155,26 +151,22 @@ impl<'a> Words<'a> {
         ensures end { self.new.end ≡ self.old.end }
         ensures bound { result.0 < 2 ^ 63 }
     {
-        let span = next_span(self.line, self.at, self.inside);
-        let text = &self.line[span.start..span.end];
-        self.at = span.end;
-        self.inside = span.inside;
-        (span.start as u64 + 1, text)
+        let Span { start, end, inside } = self.front;
+        self.front = next_span(self.line, end, inside);
+        (start as u64 + 1, &self.line[start..end])
     }
 
     /// The bytes of the next word; none where none is left.
     pub fn peek(&self) -> &'a [u8]
         ensures { result.now ≡ (spec.front_word self.now.end self.now.words).text }
     {
-        let span = next_span(self.line, self.at, self.inside);
-        &self.line[span.start..span.end]
+        &self.line[self.front.start..self.front.end]
     }
 
     /// Whether none is left.
     pub fn is_done(&self) -> bool
         ensures { result ≡ is_done self.now.words }
     {
-        let (_, rest) = self.line.split_at(self.at);
-        blanks_len(rest) == rest.len()
+        self.front.start == self.line.len()
     }
 }

@@ -1,9 +1,9 @@
-use Rattle.std.proofs.Common.{ap, ◌∙◌, ◌+◌, drop}
+use Rattle.std.proofs.Common.{ap, ◌∙◌}
 use Rattle.dp_lines.specs.Parts.{Left, is_done}
-use Rattle.dp_lines.proofs.WordLaws.{done_is}
+use Rattle.dp_lines.proofs.WordLaws.{front_done}
 use Rattle.dp_lines.proofs.words.Words.is_done.Goals as goal
 
 pub returns : goal.returns
 returns c =
-    rw (c.blanks_len.ensures.value, c.split_at.ensures.back)
-    (done_is c.self.inside.inside (c.self.inside.at + 1) (drop c.self.inside.at c.self.inside.line.now) ∙ ap (λ (left : Left). is_done left.words) c.self.view_is)
+    let front = c.self.inside.front in
+    front_done front.start front.end front.inside c.self.inside.line.now ∙ ap (λ (left : Left). is_done left.words) c.self.view_is
