@@ -19,6 +19,7 @@ use crate::literals::{first_undefined_of, inference_denial};
 use crate::start::start_with;
 use dp_domain::{Atom, Memory, Name, Scratch, State, Test};
 use dp_parts::{Part, Problem};
+use smallvec::SmallVec;
 
 /// The denial of an inference that holds, or the first test that it fails.
 pub fn judge_inference(
@@ -30,7 +31,7 @@ pub fn judge_inference(
     consequent: Option<i64>,
     constraint: Option<u64>,
     label: &Option<Name>,
-) -> Result<Vec<Atom>, Fault>
+) -> Result<SmallVec<Atom, 8>, Fault>
     requires kept { IsKept problem.now (known_of facts.now) }
     requires base { scratch.old.base ≡ problem.now.initial }
     ensures base { scratch.new.base ≡ scratch.old.base }

@@ -7,6 +7,7 @@ ghost use Rattle.dp_checker.specs.Known.{cons_some, first_undefined, first_unkno
 use crate::steps::Steps;
 use dp_domain::{Atom, Memory};
 use indexmap::IndexMap;
+use smallvec::SmallVec;
 use std::alloc::Global;
 
 /// The atom of a literal.
@@ -79,7 +80,7 @@ pub fn first_unknown(steps: &Steps, hints: &[u64]) -> Option<u64>
     None
 }
 
-fn push_some(denial: &mut Vec<Atom>, atom: Option<Atom>) -> Result<(), Memory>
+fn push_some(denial: &mut SmallVec<Atom, 8>, atom: Option<Atom>) -> Result<(), Memory>
     ensures { OnOk result (denial.new.items ≡ denial.old.items ++ cons_some atom []) }
 {
     if let Some(atom) = atom {
@@ -88,15 +89,15 @@ fn push_some(denial: &mut Vec<Atom>, atom: Option<Atom>) -> Result<(), Memory>
     Ok(())
 }
 
-/// The atoms of literals, in their order.
+/// The atoms of literals, in their order. Up to eight take no memory.
 pub fn literal_atoms(
     alloc: Global,
     atoms: &IndexMap<u64, Atom>,
     literals: &[i64],
-) -> Result<Vec<Atom>, Memory>
+) -> Result<SmallVec<Atom, 8>, Memory>
     ensures { IfOk result (λ denial. denial.items ≡ literal_atoms atoms.now.entries literals.now) }
 {
-    let mut denial = Vec::new(alloc);
+    let mut denial = SmallVec::new(alloc);
     for literal in literals {
         push_some(&mut denial, literal_atom(atoms, *literal))?;
     }
@@ -116,7 +117,7 @@ pub fn inference_denial(
     atoms: &IndexMap<u64, Atom>,
     premises: &[i64],
     consequent: Option<i64>,
-) -> Result<Vec<Atom>, Memory>
+) -> Result<SmallVec<Atom, 8>, Memory>
     ensures { IfOk result (λ denial. denial.items ≡ inference_denial atoms.now.entries premises.now consequent) }
 {
     let mut denial = literal_atoms(alloc, atoms, premises)?;

@@ -20,6 +20,7 @@ use crate::start::start_with;
 use crate::steps::Steps;
 use dp_domain::{Atom, Memory, Scratch, State, VarId};
 use dp_parts::Problem;
+use smallvec::SmallVec;
 
 /// The denial of a nogood that its hints prove, or the first test that it fails.
 pub fn judge_nogood(
@@ -29,7 +30,7 @@ pub fn judge_nogood(
     id: u64,
     atoms: &[i64],
     hints: &[u64],
-) -> Result<Vec<Atom>, Fault>
+) -> Result<SmallVec<Atom, 8>, Fault>
     requires kept { IsKept problem.now (known_of facts.now) }
     requires base { scratch.old.base ≡ problem.now.initial }
     ensures base { scratch.new.base ≡ scratch.old.base }

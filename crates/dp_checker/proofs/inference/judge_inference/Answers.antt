@@ -8,7 +8,7 @@ use Rattle.dp_checker.proofs.inference.judge_inference.Goals as goal
 
 pub start_with-requires : goal.start_with-requires
 start_with-requires c =
-    subst (λ (atoms : List Atomic). AreBelow (length c.args.scratch.now.base) atoms) (sym (c.as_slice.ensures.value ∙ c.in_ok-denial.ensures))
+    subst (λ (atoms : List Atomic). AreBelow (length c.args.scratch.now.base) atoms) (sym (c.as_slice.ensures ∙ c.in_ok-denial.ensures))
     (below_base c.args.scratch.now.base c.args.problem.now.initial _ c.requires.base
     (inference_below (length c.args.problem.now.initial) c.args.facts.now.atoms.entries c.requires.kept.atoms c.args.premises.now c.args.consequent))
 

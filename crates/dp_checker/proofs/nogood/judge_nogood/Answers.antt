@@ -9,7 +9,7 @@ use Rattle.dp_checker.proofs.nogood.judge_nogood.Goals as goal
 
 pub start_with-requires : goal.start_with-requires
 start_with-requires c =
-    subst (λ (atoms : List Atomic). AreBelow (length c.args.scratch.now.base) atoms) (sym (c.as_slice.ensures.value ∙ c.in_ok-denial.ensures))
+    subst (λ (atoms : List Atomic). AreBelow (length c.args.scratch.now.base) atoms) (sym (c.as_slice.ensures ∙ c.in_ok-denial.ensures))
     (below_base c.args.scratch.now.base c.args.problem.now.initial _ c.requires.base
     (literals_below (length c.args.problem.now.initial) c.args.facts.now.atoms.entries c.requires.kept.atoms c.args.atoms.now))
 
