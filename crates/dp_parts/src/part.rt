@@ -7,6 +7,7 @@ ghost use Rattle.dp_parts.specs.PartLaws.{part_deciding, part_exact, part_lawful
 
 use dp_domain::{Atom, Found, Memory, Rule, Scratch, State, Steps, Test, VarId};
 use dp_rule_alldiff::AllDiff;
+use dp_rule_arith::{Absolute, Greatest, Least, Times};
 use dp_rule_clause::{Nogood, Within};
 use dp_rule_cumulative::Cumulative;
 use dp_rule_element::Element;
@@ -24,6 +25,10 @@ pub enum Part {
     Element(Element),
     Cumulative(Cumulative),
     AllDiff(AllDiff),
+    Times(Times),
+    Greatest(Greatest),
+    Least(Least),
+    Absolute(Absolute),
 }
 
 impl Test for Part {
@@ -42,6 +47,10 @@ impl Test for Part {
             Part::Element(part) => part.scope_len(),
             Part::Cumulative(part) => part.scope_len(),
             Part::AllDiff(part) => part.scope_len(),
+            Part::Times(part) => part.scope_len(),
+            Part::Greatest(part) => part.scope_len(),
+            Part::Least(part) => part.scope_len(),
+            Part::Absolute(part) => part.scope_len(),
         }
     }
 
@@ -54,6 +63,10 @@ impl Test for Part {
             Part::Element(part) => part.scope_at(place),
             Part::Cumulative(part) => part.scope_at(place),
             Part::AllDiff(part) => part.scope_at(place),
+            Part::Times(part) => part.scope_at(place),
+            Part::Greatest(part) => part.scope_at(place),
+            Part::Least(part) => part.scope_at(place),
+            Part::Absolute(part) => part.scope_at(place),
         }
     }
 
@@ -66,6 +79,10 @@ impl Test for Part {
             Part::Element(part) => part.is_point(var, value),
             Part::Cumulative(part) => part.is_point(var, value),
             Part::AllDiff(part) => part.is_point(var, value),
+            Part::Times(part) => part.is_point(var, value),
+            Part::Greatest(part) => part.is_point(var, value),
+            Part::Least(part) => part.is_point(var, value),
+            Part::Absolute(part) => part.is_point(var, value),
         }
     }
 
@@ -78,6 +95,10 @@ impl Test for Part {
             Part::Element(part) => part.clash(state),
             Part::Cumulative(part) => part.clash(state),
             Part::AllDiff(part) => part.clash(state),
+            Part::Times(part) => part.clash(state),
+            Part::Greatest(part) => part.clash(state),
+            Part::Least(part) => part.clash(state),
+            Part::Absolute(part) => part.clash(state),
         }
     }
 
@@ -104,6 +125,10 @@ impl Rule for Part {
             Part::Element(part) => part.next(state, steps),
             Part::Cumulative(part) => part.next(state, steps),
             Part::AllDiff(part) => part.next(state, steps),
+            Part::Times(part) => part.next(state, steps),
+            Part::Greatest(part) => part.next(state, steps),
+            Part::Least(part) => part.next(state, steps),
+            Part::Absolute(part) => part.next(state, steps),
         }
     }
 
@@ -122,6 +147,10 @@ impl Rule for Part {
             Part::Element(part) => part.explain(initial, work, now, target),
             Part::Cumulative(part) => part.explain(initial, work, now, target),
             Part::AllDiff(part) => part.explain(initial, work, now, target),
+            Part::Times(part) => part.explain(initial, work, now, target),
+            Part::Greatest(part) => part.explain(initial, work, now, target),
+            Part::Least(part) => part.explain(initial, work, now, target),
+            Part::Absolute(part) => part.explain(initial, work, now, target),
         }
     }
 }
@@ -138,6 +167,10 @@ pub fn label(part: &Part) -> &'static str
         Part::Element(_) => "element",
         Part::Cumulative(_) => "time_table",
         Part::AllDiff(_) => "all_different",
+        Part::Times(_) => "times",
+        Part::Greatest(_) => "maximum",
+        Part::Least(_) => "minimum",
+        Part::Absolute(_) => "absolute",
     }
 }
 

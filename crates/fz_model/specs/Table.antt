@@ -21,6 +21,10 @@ constraint_name of.IntLtReif = codes "int_lt_reif"
 constraint_name of.IntEqReif = codes "int_eq_reif"
 constraint_name of.IntNeReif = codes "int_ne_reif"
 constraint_name of.IntPlus = codes "int_plus"
+constraint_name of.IntTimes = codes "int_times"
+constraint_name of.IntMax = codes "int_max"
+constraint_name of.IntMin = codes "int_min"
+constraint_name of.IntAbs = codes "int_abs"
 constraint_name of.Bool2Int = codes "bool2int"
 constraint_name of.BoolEq = codes "bool_eq"
 constraint_name of.BoolNot = codes "bool_not"
@@ -52,6 +56,7 @@ all_constraints =
     of.IntLinLe ∷ of.IntLinEq ∷ of.IntLinNe ∷ of.IntLinLeReif ∷ of.IntLinEqReif
     ∷ of.IntLinNeReif ∷ of.IntLe ∷ of.IntLt ∷ of.IntEq ∷ of.IntNe
     ∷ of.IntLeReif ∷ of.IntLtReif ∷ of.IntEqReif ∷ of.IntNeReif ∷ of.IntPlus
+    ∷ of.IntTimes ∷ of.IntMax ∷ of.IntMin ∷ of.IntAbs
     ∷ of.Bool2Int ∷ of.BoolEq ∷ of.BoolNot ∷ of.BoolXor ∷ of.BoolLe
     ∷ of.BoolLt ∷ of.BoolEqReif ∷ of.BoolLeReif ∷ of.BoolLtReif ∷ of.BoolAnd
     ∷ of.BoolOr ∷ of.ArrayBoolAnd ∷ of.ArrayBoolOr ∷ of.BoolClause ∷ of.BoolClauseReif
@@ -79,6 +84,10 @@ args_of of.IntLtReif = arg.Int ∷ arg.Int ∷ arg.Bool ∷ []
 args_of of.IntEqReif = arg.Int ∷ arg.Int ∷ arg.Bool ∷ []
 args_of of.IntNeReif = arg.Int ∷ arg.Int ∷ arg.Bool ∷ []
 args_of of.IntPlus = arg.Int ∷ arg.Int ∷ arg.Int ∷ []
+args_of of.IntTimes = arg.Int ∷ arg.Int ∷ arg.Int ∷ []
+args_of of.IntMax = arg.Int ∷ arg.Int ∷ arg.Int ∷ []
+args_of of.IntMin = arg.Int ∷ arg.Int ∷ arg.Int ∷ []
+args_of of.IntAbs = arg.Int ∷ arg.Int ∷ []
 args_of of.Bool2Int = arg.Bool ∷ arg.Int ∷ []
 args_of of.BoolEq = arg.Bool ∷ arg.Bool ∷ []
 args_of of.BoolNot = arg.Bool ∷ arg.Bool ∷ []

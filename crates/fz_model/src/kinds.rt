@@ -21,6 +21,10 @@ pub enum ConstraintKind {
     IntEqReif,
     IntNeReif,
     IntPlus,
+    IntTimes,
+    IntMax,
+    IntMin,
+    IntAbs,
     Bool2Int,
     BoolEq,
     BoolNot,
@@ -77,7 +81,7 @@ pub enum ArgKind {
 
 impl ConstraintKind {
     /// Every constraint, in the order of the table.
-    pub const ALL: [ConstraintKind; 40] = [
+    pub const ALL: [ConstraintKind; 44] = [
         ConstraintKind::IntLinLe,
         ConstraintKind::IntLinEq,
         ConstraintKind::IntLinNe,
@@ -93,6 +97,10 @@ impl ConstraintKind {
         ConstraintKind::IntEqReif,
         ConstraintKind::IntNeReif,
         ConstraintKind::IntPlus,
+        ConstraintKind::IntTimes,
+        ConstraintKind::IntMax,
+        ConstraintKind::IntMin,
+        ConstraintKind::IntAbs,
         ConstraintKind::Bool2Int,
         ConstraintKind::BoolEq,
         ConstraintKind::BoolNot,
@@ -140,6 +148,10 @@ impl ConstraintKind {
             ConstraintKind::IntEqReif => b"int_eq_reif",
             ConstraintKind::IntNeReif => b"int_ne_reif",
             ConstraintKind::IntPlus => b"int_plus",
+            ConstraintKind::IntTimes => b"int_times",
+            ConstraintKind::IntMax => b"int_max",
+            ConstraintKind::IntMin => b"int_min",
+            ConstraintKind::IntAbs => b"int_abs",
             ConstraintKind::Bool2Int => b"bool2int",
             ConstraintKind::BoolEq => b"bool_eq",
             ConstraintKind::BoolNot => b"bool_not",
@@ -205,7 +217,11 @@ impl ConstraintKind {
             | ConstraintKind::IntLtReif
             | ConstraintKind::IntEqReif
             | ConstraintKind::IntNeReif => &[ArgKind::Int, ArgKind::Int, ArgKind::Bool],
-            ConstraintKind::IntPlus => &[ArgKind::Int, ArgKind::Int, ArgKind::Int],
+            ConstraintKind::IntPlus
+            | ConstraintKind::IntTimes
+            | ConstraintKind::IntMax
+            | ConstraintKind::IntMin => &[ArgKind::Int, ArgKind::Int, ArgKind::Int],
+            ConstraintKind::IntAbs => &[ArgKind::Int, ArgKind::Int],
             ConstraintKind::Bool2Int => &[ArgKind::Bool, ArgKind::Int],
             ConstraintKind::BoolEq
             | ConstraintKind::BoolNot

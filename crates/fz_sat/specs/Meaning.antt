@@ -1,5 +1,6 @@
 -- The meaning of each constraint, of the values that its arguments have.
-use Rattle.std.specs.Prelude.{ℕ, nat_le, Bool, true, false, not, ◌&&◌, ◌||◌, if◌then◌else◌, IsTrue, List, length, map, ℤ, pos, ◌+ℤ◌, int_le, int_lt}
+use Rattle.std.specs.Prelude.{ℕ, nat_le, Bool, true, false, not, ◌&&◌, ◌||◌, if◌then◌else◌, IsTrue, List, length, map, ℤ, pos, ◌+ℤ◌, ◌*ℤ◌, int_le, int_lt, unsigned_abs}
+use Rattle.std.specs.Int.{int_max, int_min}
 use Rattle.std.specs.List.{list_all, list_any}
 use Rattle.std.specs.Ordering.{int_eq}
 use Rattle.dp_domain.specs.Terms.{term_at}
@@ -82,6 +83,10 @@ holds of.IntLtReif g = iff (truth g 2) (int_lt (g.number 0) (g.number 1))
 holds of.IntEqReif g = iff (truth g 2) (int_eq (g.number 0) (g.number 1))
 holds of.IntNeReif g = iff (truth g 2) (not (int_eq (g.number 0) (g.number 1)))
 holds of.IntPlus g = int_eq (g.number 0 +ℤ g.number 1) (g.number 2)
+holds of.IntTimes g = int_eq (g.number 0 *ℤ g.number 1) (g.number 2)
+holds of.IntMax g = int_eq (int_max (g.number 0) (g.number 1)) (g.number 2)
+holds of.IntMin g = int_eq (int_min (g.number 0) (g.number 1)) (g.number 2)
+holds of.IntAbs g = int_eq (pos (unsigned_abs (g.number 0))) (g.number 1)
 holds of.Bool2Int g = int_eq (g.number 1) (g.number 0)
 holds of.BoolEq g = iff (truth g 0) (truth g 1)
 holds of.BoolNot g = not (iff (truth g 0) (truth g 1))

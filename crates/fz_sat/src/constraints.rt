@@ -7,7 +7,7 @@ ghost use Rattle.fz_sat.specs.Satisfies.{valuation};
 use crate::booleans::{all_hold, clause_holds, some_holds, xor_holds};
 use crate::element::selection_holds;
 use crate::global::all_differ;
-use crate::linear::{plus_holds, sum_is, sum_is_at_most};
+use crate::linear::{absolute_holds, plus_holds, sum_is, sum_is_at_most, times_holds};
 use crate::row::Row;
 use crate::schedule::schedule_holds;
 use fz_model::ConstraintKind;
@@ -32,6 +32,10 @@ pub fn holds(kind: ConstraintKind, row: &Row) -> bool
         ConstraintKind::IntEqReif => row.is_on(2) == row.are_equal(0, 1),
         ConstraintKind::IntNeReif => row.is_on(2) != row.are_equal(0, 1),
         ConstraintKind::IntPlus => plus_holds(row),
+        ConstraintKind::IntTimes => times_holds(row),
+        ConstraintKind::IntMax => row.number(0).max(row.number(1)) == row.number(2),
+        ConstraintKind::IntMin => row.number(0).min(row.number(1)) == row.number(2),
+        ConstraintKind::IntAbs => absolute_holds(row),
         ConstraintKind::Bool2Int => row.are_equal(1, 0),
         ConstraintKind::BoolEq => row.is_on(0) == row.is_on(1),
         ConstraintKind::BoolNot => row.is_on(0) != row.is_on(1),

@@ -1,6 +1,6 @@
-//! The rows on sums.
+//! The rows on sums, products and absolute values.
 
-ghost use Rattle.std.specs.Prelude.{◌≡◌, ◌<◌, length, pos, ◌+ℤ◌, int_le};
+ghost use Rattle.std.specs.Prelude.{◌≡◌, ◌<◌, length, pos, ◌+ℤ◌, ◌*ℤ◌, int_le, unsigned_abs};
 ghost use Rattle.std.specs.Ordering.{int_eq};
 ghost use Rattle.fz_sat.specs.Meaning.{given, sum_of};
 ghost use Rattle.fz_sat.specs.Satisfies.{valuation, value_of};
@@ -51,4 +51,20 @@ pub fn plus_holds(row: &Row) -> bool
         result ≡ int_eq (g.number 0 +ℤ g.number 1) (g.number 2) }
 {
     i128::from(row.number(0)) + i128::from(row.number(1)) == i128::from(row.number(2))
+}
+
+/// Whether the product of the first two numbers is the third.
+pub fn times_holds(row: &Row) -> bool
+    ensures { let g = given row.now.items.now row.now.args.now (valuation row.now.values.now) in
+        result ≡ int_eq (g.number 0 *ℤ g.number 1) (g.number 2) }
+{
+    i128::from(row.number(0)) * i128::from(row.number(1)) == i128::from(row.number(2))
+}
+
+/// Whether the second number is the first without its sign.
+pub fn absolute_holds(row: &Row) -> bool
+    ensures { let g = given row.now.items.now row.now.args.now (valuation row.now.values.now) in
+        result ≡ int_eq (pos (unsigned_abs (g.number 0))) (g.number 1) }
+{
+    i128::from(row.number(0).unsigned_abs()) == i128::from(row.number(1))
 }

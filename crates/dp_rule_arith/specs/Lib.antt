@@ -1,0 +1,5 @@
+pub mod Scopes
+pub mod Operations
+pub mod OperationLaws
+pub mod SpanLaws
+pub mod KindLaws

@@ -1,0 +1,67 @@
+// Intervals of what terms may be, and of what an operation makes of them.
+
+ghost use Rattle.std.specs.Prelude.{◌≡◌, ◌*ℤ◌, length};
+ghost use Rattle.dp_domain.specs.Terms.{IsTermOf};
+ghost use Rattle.dp_rule_arith.specs.Operations.{absolute_span, are_apart, bounds, greater_span, lesser_span, product_span};
+
+use crate::{State, Term};
+
+/// The least value of the term at the state and its greatest; 0 where it has none.
+pub fn bounds(term: Term, state: &State) -> (i64, i64)
+    requires { IsTermOf (length state.now) term }
+    ensures { result ≡ bounds state.now term }
+{
+    let lower = term.lower(state).unwrap_or(0);
+    let upper = term.upper(state).unwrap_or(0);
+    (lower, upper)
+}
+
+/// Whether one interval ends before the other begins.
+pub fn are_apart(one: (i128, i128), other: (i64, i64)) -> bool
+    ensures { result ≡ are_apart one other }
+{
+    one.1 < i128::from(other.0) || i128::from(other.1) < one.0
+}
+
+/// The interval of the products: from the least of the four products of ends to the greatest.
+pub fn product_span(a: (i64, i64), b: (i64, i64)) -> (i128, i128)
+    ensures { result ≡ product_span a b }
+{
+    let (first, second) = (product(a.0, b.0), product(a.0, b.1));
+    let (third, fourth) = (product(a.1, b.0), product(a.1, b.1));
+    (
+        first.min(second).min(third.min(fourth)),
+        first.max(second).max(third.max(fourth)),
+    )
+}
+
+/// The product of two numbers.
+fn product(x: i64, y: i64) -> i128
+    ensures { result ≡ x *ℤ y }
+{
+    i128::from(x) * i128::from(y)
+}
+
+/// The interval of the greater of two: from the greater lower end to the greater upper end.
+pub fn greater_span(a: (i64, i64), b: (i64, i64)) -> (i128, i128)
+    ensures { result ≡ greater_span a b }
+{
+    (i128::from(a.0.max(b.0)), i128::from(a.1.max(b.1)))
+}
+
+/// The interval of the lesser of two: from the lesser lower end to the lesser upper end.
+pub fn lesser_span(a: (i64, i64), b: (i64, i64)) -> (i128, i128)
+    ensures { result ≡ lesser_span a b }
+{
+    (i128::from(a.0.min(b.0)), i128::from(a.1.min(b.1)))
+}
+
+/// The interval of absolute values: from the least distance to 0 to the greatest.
+pub fn absolute_span(a: (i64, i64)) -> (i128, i128)
+    ensures { result ≡ absolute_span a }
+{
+    let (lower, upper) = (i128::from(a.0), i128::from(a.1));
+    let nearest: i128 = lower.max(-upper);
+    let zero: i128 = 0;
+    (zero.max(nearest), (-lower).max(upper))
+}
