@@ -25,7 +25,7 @@ const KEPT: &str =
 const FREE: &str = "var bool: p;\nsolve satisfy;\n";
 
 // Models, scaffolds without a nogood, the logs that they become, and the steps of those.
-const CLAIMS: [(&str, &str, &str, u32); 9] = [
+const CLAIMS: [(&str, &str, &str, u32); 11] = [
     (
         "var 1..5: x;\nvar 6..9: y = x;\nsolve satisfy;\n",
         "c UNSAT\n",
@@ -78,6 +78,18 @@ const CLAIMS: [(&str, &str, &str, u32); 9] = [
         "var 0..9: x;\nconstraint int_le(x,7);\nsolve maximize x;\n",
         "a 1 [x >= 8]\nc -1\n",
         "a 1 [x >= 8]\ni 1 1 0 c:1 l:linear\nn 2 1 0 1\nc -1\n",
+        2,
+    ),
+    (
+        "var 2..5: x;\nvar 3..4: y;\nvar 0..25: z;\nconstraint int_times(x,y,z);\nconstraint int_le(z,5);\nsolve satisfy;\n",
+        "c UNSAT\n",
+        "a 1 [z >= 6]\ni 1 0 1 c:1 l:times\ni 2 1 0 c:2 l:linear\nn 3 0 1 2\nc UNSAT\n",
+        3,
+    ),
+    (
+        "var -3..5: x;\nconstraint int_abs(x,7);\nsolve satisfy;\n",
+        "c UNSAT\n",
+        "i 1 0 c:1 l:absolute\nn 2 0 1\nc UNSAT\n",
         2,
     ),
 ];

@@ -1,6 +1,8 @@
 -- An assignment that cannot fail a part meets it.
-use Rattle.std.proofs.Common.{◌≡◌, ℕ, zero, suc, ◌+◌, ◌<◌, ◌≤◌, false, ◌⊎◌, List, [], ◌∷◌, Option, Some, None, slice_get, ℤ, pos, negsuc, ◌≤ℤ◌, ◌<ℤ◌, map, refl, sym, ◌∙◌, ap, inl, inr, arith}
+use Rattle.std.proofs.Common.{◌≡◌, ℕ, zero, suc, ◌+◌, ◌<◌, ◌≤◌, false, ◌⊎◌, List, [], ◌∷◌, Option, Some, None, slice_get, ℤ, pos, negsuc, ◌*ℤ◌, ◌≤ℤ◌, ◌<ℤ◌, map, refl, sym, ◌∙◌, ap, inl, inr, arith}
+use Rattle.std.specs.Int.{int_max, int_min}
 use Rattle.std.specs.List.{list_all}
+use Rattle.std.specs.Prelude.{unsigned_abs}
 use Rattle.std.specs.Ordering.{int_eq}
 use Rattle.std.proofs.lemmas.Bool.{both_ways, cases_Bool, cases_lt}
 use Rattle.std.proofs.lemmas.Bool.Decides.{Decides-int_eq}
@@ -18,7 +20,7 @@ use Rattle.dp_domain.proofs.ShareLaws.{is_among-at, is_among-some}
 use Rattle.dp_parts.specs.PartLaws.{part_deciding}
 use Rattle.dp_parts.specs.Parts.{MeetsPart, face_of}
 use Rattle.dp_parts.specs.declared.part.Part.{Part}
-use Rattle.dp_parts.specs.declared.part.Part.TheVariants.{LinLe, LinNe, Nogood, Within, Element, Cumulative, AllDiff}
+use Rattle.dp_parts.specs.declared.part.Part.TheVariants.{LinLe, LinNe, Nogood, Within, Element, Cumulative, AllDiff, Times, Greatest, Least, Absolute}
 use Rattle.dp_rule_alldiff.specs.AllDifferent.{AreDistinct}
 use Rattle.dp_rule_clause.specs.Nogoods.{MeetsNogood}
 use Rattle.dp_rule_clause.specs.Restrictions.{MeetsWithin, Restriction}
@@ -135,6 +137,12 @@ distinct_stable : (vs : List ℤ) → IsStable (AreDistinct vs)
 distinct_stable [] f = tt
 distinct_stable (v ∷ vs) f = (λ h. f (λ m. m.0 h), distinct_stable vs (λ n. f (λ m. n m.1)))
 
+equal_stable : (x y : ℤ) → IsStable (x ≡ y)
+equal_stable x y f = elim (cases_Bool (int_eq x y)) [
+  | inl b ↦ (Decides-int_eq x y).0 b
+  | inr b ↦ absurd (f (λ e. both_ways (int_eq x y) b ((Decides-int_eq x y).1 e)))
+]
+
 -- ---- every part
 
 part_stable : (q : Part) (s : ℕ → ℤ) → IsStable (MeetsPart q s)
@@ -145,6 +153,10 @@ part_stable (Within q) s = within_stable q s
 part_stable (Element q) s = settled_stable (MeetsElement q s) (element_settled q.array s (term_at s q.value) (term_at s q.index))
 part_stable (Cumulative q) s = cumulative_stable q s
 part_stable (AllDiff q) s = distinct_stable (map (term_at s) q)
+part_stable (Times q) s = equal_stable (term_at s q.a *ℤ term_at s q.b) (term_at s q.c)
+part_stable (Greatest q) s = equal_stable (int_max (term_at s q.a) (term_at s q.b)) (term_at s q.c)
+part_stable (Least q) s = equal_stable (int_min (term_at s q.a) (term_at s q.b)) (term_at s q.c)
+part_stable (Absolute q) s = equal_stable (pos (unsigned_abs (term_at s q.a))) (term_at s q.b)
 
 -- where each variable of a part has one value and the part does not clash, these values meet it
 pub calm-meets : (q : Part) (d : Domains) (s : ℕ → ℤ) → is_dead d ≡ false → Fixes (face_of q).scope s d → (face_of q).test d ≡ false → MeetsPart q s

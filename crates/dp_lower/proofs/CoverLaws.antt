@@ -22,6 +22,7 @@ use Rattle.dp_rule_linear.specs.Forms as linear
 use Rattle.fz_model.specs.declared.model.SetText.{SetText}
 use Rattle.fz_sat.specs.Args.{is_in_set}
 use Rattle.fz_sat.specs.Meaning.{is_on}
+use Rattle.dp_lower.specs.Arithmetic.{absolute_is, greater_is, lesser_is, multiplied}
 use Rattle.dp_lower.specs.Globals.{all_different, numbers_in, scheduled, selected}
 use Rattle.dp_lower.specs.Recipe.{all_rows, any_rows, clause_row, clause_rows, member, member_reified, other_rows, rows_by, same_rows}
 use Rattle.dp_lower.specs.Sides.{Side, always, atom_of, is_above, is_at_most, is_equal, is_member, is_no_member, is_other, is_refuted, nogood, nogoods, off, on, passes, reified}
@@ -290,6 +291,18 @@ selected_fine n index array value h each g = record { covered = (scope_of_terms 
 
 pub all_different_fine : (n : ℕ) (terms : List Term) → AreTermsOf n terms → AreFine n 1 (all_different terms)
 all_different_fine n terms each = record { covered = (scope_of_terms n terms each, tt); few = omega arith }
+
+pub multiplied_fine : (n : ℕ) (a b c : Term) → IsTermOf n a → IsTermOf n b → IsTermOf n c → AreFine n 1 (multiplied a b c)
+multiplied_fine n a b c f g h = record { covered = (scope_of_terms n (a ∷ b ∷ c ∷ []) (f, (g, (h, tt))), tt); few = omega arith }
+
+pub greater_fine : (n : ℕ) (a b c : Term) → IsTermOf n a → IsTermOf n b → IsTermOf n c → AreFine n 1 (greater_is a b c)
+greater_fine n a b c f g h = record { covered = (scope_of_terms n (a ∷ b ∷ c ∷ []) (f, (g, (h, tt))), tt); few = omega arith }
+
+pub lesser_fine : (n : ℕ) (a b c : Term) → IsTermOf n a → IsTermOf n b → IsTermOf n c → AreFine n 1 (lesser_is a b c)
+lesser_fine n a b c f g h = record { covered = (scope_of_terms n (a ∷ b ∷ c ∷ []) (f, (g, (h, tt))), tt); few = omega arith }
+
+pub absolute_fine : (n : ℕ) (a b : Term) → IsTermOf n a → IsTermOf n b → AreFine n 1 (absolute_is a b)
+absolute_fine n a b f g = record { covered = (scope_of_terms n (a ∷ Const (pos 0) ∷ b ∷ []) (f, (tt, (g, tt))), tt); few = omega arith }
 
 starts_of : (n : ℕ) (starts : List Term) (durations uses : List ℤ) → AreTermsOf n starts → AreTermsOf n (schedule.starts (map schedule.task_of (zip starts (zip durations uses))))
 starts_of n [] durations uses each = tt

@@ -18,7 +18,7 @@ use Rattle.dp_lower.specs.Recipe.{all_rows, any_rows, args_in, clause_row, claus
 use Rattle.dp_lower.specs.Sides.{is_above, is_at_most, is_equal, is_other}
 use Rattle.dp_lower.specs.Sums.{weighted}
 use Rattle.dp_lower.specs.declared.literal.Literal.TheVariants.{Holds, Fails}
-use Rattle.dp_lower.proofs.CoverLaws.{AreFine, AreRowsOf, IsSumOf, above_fine, all_different_fine, all_rows_of, always_fine, any_rows_of, at_most_fine, clause_row_of, clause_rows_of, equal_fine, member_fine, member_reified_fine, more_fine, nogood_fine, nogoods_fine, other_fine, other_rows_of, reified_fine, rows_by_of, same_rows_of, scheduled_fine, selected_fine, sum_of_terms, weighted_of}
+use Rattle.dp_lower.proofs.CoverLaws.{AreFine, AreRowsOf, IsSumOf, above_fine, absolute_fine, all_different_fine, all_rows_of, always_fine, any_rows_of, at_most_fine, clause_row_of, clause_rows_of, equal_fine, greater_fine, lesser_fine, member_fine, member_reified_fine, more_fine, multiplied_fine, nogood_fine, nogoods_fine, other_fine, other_rows_of, reified_fine, rows_by_of, same_rows_of, scheduled_fine, selected_fine, sum_of_terms, weighted_of}
 
 -- ---- arguments
 
@@ -125,6 +125,18 @@ recipe_fine items args of.IntNeReif h =
 recipe_fine items args of.IntPlus h =
     let n = count_variables items in let a = args_in items args in
     more_fine n 2 most_parts (recipe of.IntPlus a) (omega arith) (always_fine n 2 (is_equal (excess a) (pos 0)) (equal_fine n (excess a) (pos 0) (excess_of items args h.0 h.1.0 h.1.1.0)))
+recipe_fine items args of.IntTimes h =
+    let n = count_variables items in let a = args_in items args in
+    more_fine n 1 most_parts (recipe of.IntTimes a) (omega arith) (multiplied_fine n (a.term 0) (a.term 1) (a.term 2) (int_term items (a.term 0) h.0) (int_term items (a.term 1) h.1.0) (int_term items (a.term 2) h.1.1.0))
+recipe_fine items args of.IntMax h =
+    let n = count_variables items in let a = args_in items args in
+    more_fine n 1 most_parts (recipe of.IntMax a) (omega arith) (greater_fine n (a.term 0) (a.term 1) (a.term 2) (int_term items (a.term 0) h.0) (int_term items (a.term 1) h.1.0) (int_term items (a.term 2) h.1.1.0))
+recipe_fine items args of.IntMin h =
+    let n = count_variables items in let a = args_in items args in
+    more_fine n 1 most_parts (recipe of.IntMin a) (omega arith) (lesser_fine n (a.term 0) (a.term 1) (a.term 2) (int_term items (a.term 0) h.0) (int_term items (a.term 1) h.1.0) (int_term items (a.term 2) h.1.1.0))
+recipe_fine items args of.IntAbs h =
+    let n = count_variables items in let a = args_in items args in
+    more_fine n 1 most_parts (recipe of.IntAbs a) (omega arith) (absolute_fine n (a.term 0) (a.term 1) (int_term items (a.term 0) h.0) (int_term items (a.term 1) h.1.0))
 recipe_fine items args of.Bool2Int h =
     let n = count_variables items in let a = args_in items args in
     more_fine n 2 most_parts (recipe of.Bool2Int a) (omega arith) (always_fine n 2 (is_equal (difference a) (pos 0)) (equal_fine n (difference a) (pos 0) (sum_of_terms n ((pos 1, a.term 0) ∷ (negsuc 0, a.term 1) ∷ []) (bool_term items (a.term 0) h.0, (int_term items (a.term 1) h.1.0, tt)))))

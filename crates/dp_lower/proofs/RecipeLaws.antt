@@ -1,6 +1,7 @@
 -- What the parts of each kind of constraint say: one line for each row of the table.
 use Rattle.std.proofs.Common.{◌≡◌, ℕ, Bool, true, false, List, [], ◌∷◌, map, ℤ, pos, negsuc, ◌+ℤ◌, ◌-ℤ◌, ◌*ℤ◌, ◌≤ℤ◌, refl, sym, ◌∙◌, ap, arith}
-use Rattle.std.specs.Prelude.{◌↔◌, nat_le, not, ◌&&◌, ◌||◌, int_le, int_lt}
+use Rattle.std.specs.Prelude.{◌↔◌, nat_le, not, ◌&&◌, ◌||◌, int_le, int_lt, unsigned_abs}
+use Rattle.std.specs.Int.{int_max, int_min}
 use Rattle.std.specs.List.{list_all}
 use Rattle.std.specs.Ordering.{int_eq}
 use Rattle.std.proofs.lemmas.Int.{ints}
@@ -14,6 +15,7 @@ use Rattle.dp_domain.specs.declared.term.Term.{Term}
 use Rattle.dp_domain.specs.declared.term.Term.TheVariants.{Var, Const}
 use Rattle.dp_domain.proofs.AtomLaws.{le-from_test, test-from_le, test-from_lt}
 use Rattle.dp_parts.specs.declared.part.Part.{Part}
+use Rattle.dp_parts.specs.declared.part.Part.TheVariants.{Times, Greatest, Least, Absolute}
 use Rattle.fz_model.specs.declared.kinds.ConstraintKind.{ConstraintKind}
 use Rattle.fz_model.specs.declared.kinds.ConstraintKind.TheVariants as of
 use Rattle.fz_model.specs.declared.model.SetText.{SetText}
@@ -27,7 +29,7 @@ use Rattle.dp_lower.specs.Sums.{weighted}
 use Rattle.dp_lower.specs.declared.literal.Literal.TheVariants.{Holds, Fails}
 use Rattle.dp_lower.proofs.BoolRows.{all_rows_say, any_rows_say, clause_rows_say, clause_says, le_row, lt_row, not_le_row, not_lt_row, not_other_row, other_row, rows_by_say, same_row}
 use Rattle.dp_lower.proofs.GlobalLaws.{all_different_means, scheduled_means, selected_means}
-use Rattle.dp_lower.proofs.SideLaws.{AreMet, Say, SaysSide, above_says, always_says, at_most_says, equal_says, nogood_says, nogoods_say, not_all, other_says, passes_says, reified_says}
+use Rattle.dp_lower.proofs.SideLaws.{AreMet, Say, SaysSide, above_says, always_says, at_most_says, equal_says, nogood_says, nogoods_say, not_all, one_part, other_says, passes_says, reified_says}
 use Rattle.dp_lower.proofs.SumLaws.{const_value, value-sum_of, value_at, worth-weighted}
 
 -- ---- sums
@@ -238,6 +240,14 @@ recipe_says s of.Bool2Int a tested h =
 recipe_says s of.IntPlus a tested h =
     said s (recipe of.IntPlus a) (holds of.IntPlus (given_at s a)) (int_eq (value_at s (excess a)) (pos 0)) (plus_eq (term_at s (a.term 0)) (term_at s (a.term 1)) (term_at s (a.term 2)) (value_at s (excess a)) (excess_value s a))
     (always_says s (is_equal (excess a) (pos 0)) (int_eq (value_at s (excess a)) (pos 0)) (equal_says s (excess a) (pos 0)))
+recipe_says s of.IntTimes a tested h =
+    one_part s (Times (record { a = a.term 0; b = a.term 1; c = a.term 2 })) (holds of.IntTimes (given_at s a)) (Decides-int_eq (term_at s (a.term 0) *ℤ term_at s (a.term 1)) (term_at s (a.term 2)))
+recipe_says s of.IntMax a tested h =
+    one_part s (Greatest (record { a = a.term 0; b = a.term 1; c = a.term 2 })) (holds of.IntMax (given_at s a)) (Decides-int_eq (int_max (term_at s (a.term 0)) (term_at s (a.term 1))) (term_at s (a.term 2)))
+recipe_says s of.IntMin a tested h =
+    one_part s (Least (record { a = a.term 0; b = a.term 1; c = a.term 2 })) (holds of.IntMin (given_at s a)) (Decides-int_eq (int_min (term_at s (a.term 0)) (term_at s (a.term 1))) (term_at s (a.term 2)))
+recipe_says s of.IntAbs a tested h =
+    one_part s (Absolute (record { a = a.term 0; b = a.term 1 })) (holds of.IntAbs (given_at s a)) (Decides-int_eq (pos (unsigned_abs (term_at s (a.term 0)))) (term_at s (a.term 1)))
 recipe_says s of.BoolEq a tested h =
     said s (recipe of.BoolEq a) (holds of.BoolEq (given_at s a)) (list_all (not_all s) (same_rows (a.term 0) (a.term 1))) (same_row (is_on (term_at s (a.term 0))) (is_on (term_at s (a.term 1))))
     (nogoods_say s (same_rows (a.term 0) (a.term 1)))

@@ -93,7 +93,7 @@ Say-append s xs ys x y p q = (
   λ h. let both = Each-append_parts (λ part. MeetsPart part s) xs ys h in and_from x y (p.1 both.0) (q.1 both.1),
 )
 
-one_part : (s : ℕ → ℤ) (q : Part) (b : Bool) → Decides b (MeetsPart q s) → Say s (q ∷ []) b
+pub one_part : (s : ℕ → ℤ) (q : Part) (b : Bool) → Decides b (MeetsPart q s) → Say s (q ∷ []) b
 one_part s q b d = (λ e. (d.0 e, tt), λ h. d.1 h.0)
 
 -- ---- sums

@@ -3,6 +3,7 @@ pub mod Sums
 pub mod Merged
 pub mod Sides
 pub mod Globals
+pub mod Arithmetic
 pub mod Intervals
 pub mod Recipe
 pub mod Codes

@@ -9,6 +9,7 @@ use Rattle.fz_model.specs.declared.model.Expr.{Expr}
 use Rattle.fz_model.specs.declared.model.Item.{Item}
 use Rattle.fz_model.specs.declared.model.SetText.{SetText}
 use Rattle.fz_sat.specs.Args.{arg_set, arg_term, arg_terms, is_in_set}
+use Rattle.dp_lower.specs.Arithmetic.{absolute_is, greater_is, lesser_is, multiplied}
 use Rattle.dp_lower.specs.Globals.{all_different, scheduled, selected}
 use Rattle.dp_lower.specs.Sides.{always, is_above, is_at_most, is_equal, is_member, is_no_member, is_other, nogood, nogoods, reified}
 use Rattle.dp_lower.specs.Sums.{Sum, number_in, sum_of, weighted}
@@ -108,6 +109,10 @@ recipe of.IntLtReif a = reified (a.term 2) (is_at_most (difference a) (negsuc 0)
 recipe of.IntEqReif a = reified (a.term 2) (is_equal (difference a) (pos 0)) (is_other (difference a) (pos 0))
 recipe of.IntNeReif a = reified (a.term 2) (is_other (difference a) (pos 0)) (is_equal (difference a) (pos 0))
 recipe of.IntPlus a = always (is_equal (excess a) (pos 0))
+recipe of.IntTimes a = multiplied (a.term 0) (a.term 1) (a.term 2)
+recipe of.IntMax a = greater_is (a.term 0) (a.term 1) (a.term 2)
+recipe of.IntMin a = lesser_is (a.term 0) (a.term 1) (a.term 2)
+recipe of.IntAbs a = absolute_is (a.term 0) (a.term 1)
 recipe of.Bool2Int a = always (is_equal (difference a) (pos 0))
 recipe of.BoolEq a = nogoods (same_rows (a.term 0) (a.term 1))
 recipe of.BoolNot a = nogoods (other_rows (a.term 0) (a.term 1))

@@ -94,7 +94,7 @@ fn number_of(term: &Term) -> i64
 }
 
 /// The one part.
-fn one_part(alloc: Global, part: Part) -> Result<Vec<Part>, Memory>
+pub fn one_part(alloc: Global, part: Part) -> Result<Vec<Part>, Memory>
     ensures { IfOk result (λ parts. parts.items ≡ part ∷ []) }
 {
     let mut parts = Vec::new(alloc);

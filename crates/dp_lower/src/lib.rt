@@ -1,6 +1,7 @@
 //! From models to problems: names, initial domains and the parts of constraints.
 #![tactic(auto)]
 
+mod arithmetic;
 mod booleans;
 mod domains;
 mod globals;

@@ -5,6 +5,7 @@ ghost use Rattle.fz_model.specs.Table.{args_of};
 ghost use Rattle.fz_facts.specs.Facts.{AreFit, ArePaired};
 ghost use Rattle.dp_lower.specs.Recipe.{args_in, recipe};
 
+use crate::arithmetic::{absolute_is, greater_is, lesser_is, multiplied};
 use crate::booleans::Pair;
 use crate::globals::{all_different, scheduled, selected};
 use crate::integers::{added, compared, compared_reified, linear, linear_reified};
@@ -46,6 +47,10 @@ pub fn parts_of(
         ConstraintKind::IntEqReif => compared_reified(alloc, items, args, Relation::Equal, 0),
         ConstraintKind::IntNeReif => compared_reified(alloc, items, args, Relation::Other, 0),
         ConstraintKind::IntPlus => added(alloc, items, args),
+        ConstraintKind::IntTimes => multiplied(alloc, items, args),
+        ConstraintKind::IntMax => greater_is(alloc, items, args),
+        ConstraintKind::IntMin => lesser_is(alloc, items, args),
+        ConstraintKind::IntAbs => absolute_is(alloc, items, args),
         ConstraintKind::Bool2Int => compared(alloc, items, args, Relation::Equal, 0),
         ConstraintKind::BoolEq => paired(alloc, items, args, Pair::Same),
         ConstraintKind::BoolNot => paired(alloc, items, args, Pair::Differ),

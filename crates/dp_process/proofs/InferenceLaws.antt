@@ -16,7 +16,7 @@ use Rattle.dp_parts.specs.Posed.{Labelled, Posed}
 use Rattle.dp_parts.specs.Problems.{Csp, labelled, posed}
 use Rattle.dp_parts.specs.Rules.{implies, is_labelled}
 use Rattle.dp_parts.specs.declared.part.Part.{Part}
-use Rattle.dp_parts.specs.declared.part.Part.TheVariants.{LinLe, LinNe, Nogood as Clause, Within, Element, Cumulative, AllDiff}
+use Rattle.dp_parts.specs.declared.part.Part.TheVariants.{LinLe, LinNe, Nogood as Clause, Within, Element, Cumulative, AllDiff, Times, Greatest, Least, Absolute}
 use Rattle.dp_checker.specs.Judged.{initial_domain, parts_of}
 use Rattle.dp_engine.specs.declared.part_id.PartId.TheVariants.{Model}
 use Rattle.dp_justify.specs.Replay.{HoldsBy, constraint_at}
@@ -39,6 +39,10 @@ kind_label (Within q) = refl
 kind_label (Element q) = refl
 kind_label (Cumulative q) = refl
 kind_label (AllDiff q) = refl
+kind_label (Times q) = refl
+kind_label (Greatest q) = refl
+kind_label (Least q) = refl
+kind_label (Absolute q) = refl
 
 kind_labels : (ps : List Part) → Each IsOfKind (map labelled ps)
 kind_labels [] = tt

@@ -1,8 +1,8 @@
 -- The laws of a test by bounds, for any operation whose results over two intervals are known to their ends.
-use Rattle.std.specs.Prelude.{◌≡◌, ℕ, Bool, true, false, ◌||◌, ◌↔◌, ◌⊎◌, List, [], ◌∷◌, length, ℤ, ◌≤ℤ◌, ◌<ℤ◌, int_lt}
+use Rattle.std.specs.Prelude.{◌≡◌, ℕ, Bool, true, false, ◌||◌, ◌↔◌, ◌<◌, ◌⊎◌, List, [], ◌∷◌, length, ℤ, ◌≤ℤ◌, ◌<ℤ◌, int_lt}
 use Rattle.std.proofs.Common.{refl, sym, ◌∙◌, ap, subst, inl, inr, arith}
 use Rattle.std.proofs.lemmas.Int.{ints}
-use Rattle.std.proofs.lemmas.Bool.{both_ways, false_from_ne_true, or_cases, or_left, or_right}
+use Rattle.std.proofs.lemmas.Bool.{both_ways, cases_Bool, false_from_ne_true, or_cases, or_left, or_right}
 use Rattle.dp_base.specs.Lists.{Among}
 use Rattle.dp_base.proofs.Lists.{Each-among}
 use Rattle.dp_base.proofs.ScopeLaws.{climbs_in_order}
@@ -50,7 +50,7 @@ less_from : (x y : ℤ) → int_lt x y ≡ true → x <ℤ y
 less_from x y e = omega (arith, ints)
 
 less_to : (x y : ℤ) → x <ℤ y → int_lt x y ≡ true
-less_to x y h = omega (arith, ints)
+less_to x y h = elim (cases_Bool (int_lt x y)) [ inl e ↦ e | inr e ↦ absurd (omega (arith, ints)) ]
 
 only_between : (v x : ℤ) → v ≤ℤ x → x ≤ℤ v → x ≡ v
 only_between v x h k = omega (arith, ints)
@@ -121,15 +121,15 @@ covered terms d t covers here = term_covered (term_scope terms) d t covers (term
 apart_within : (f : ℤ → ℤ → ℤ) (span : ℤ × ℤ → ℤ × ℤ → ℤ × ℤ) → IsSpanOf f span → (i j k i' j' k' : ℤ × ℤ) → i'.0 ≤ℤ i'.1 → j'.0 ≤ℤ j'.1 → k'.0 ≤ℤ k'.1 → ((x : ℤ) → LiesBetween i' x → LiesBetween i x) → ((x : ℤ) → LiesBetween j' x → LiesBetween j x) → ((x : ℤ) → LiesBetween k' x → LiesBetween k x) → AreApart (span i j) k → AreApart (span i' j') k'
 apart_within f span h i j k i' j' k' io jo ko iw jw kw (inl below) =
     let r = h.high i' j' io jo in
-    let b = h.holds i j r.0 r.1 (iw r.0 r.2.0) (jw r.1 r.2.1.0) in
-    inl (less_between (span i' j').1 (span i j).1 k.0 k'.0 (subst (λ z. z ≤ℤ (span i j).1) (sym r.2.1.1) b.1) below (kw k'.0 (le_itself k'.0, ko)).0)
+    let b = h.holds i j r.0 r.1 (iw r.0 r.2) (jw r.1 r.3) in
+    inl (less_between (span i' j').1 (span i j).1 k.0 k'.0 (subst (λ z. z ≤ℤ (span i j).1) (sym r.4) b.1) below (kw k'.0 (le_itself k'.0, ko)).0)
   where
     le_itself : (v : ℤ) → v ≤ℤ v
     le_itself v = omega (arith, ints)
 apart_within f span h i j k i' j' k' io jo ko iw jw kw (inr above) =
     let r = h.low i' j' io jo in
-    let b = h.holds i j r.0 r.1 (iw r.0 r.2.0) (jw r.1 r.2.1.0) in
-    inr (less_between k'.1 k.1 (span i j).0 (span i' j').0 (kw k'.1 (ko, le_itself k'.1)).1 above (subst (λ z. (span i j).0 ≤ℤ z) (sym r.2.1.1) b.0))
+    let b = h.holds i j r.0 r.1 (iw r.0 r.2) (jw r.1 r.3) in
+    inr (less_between k'.1 k.1 (span i j).0 (span i' j').0 (kw k'.1 (ko, le_itself k'.1)).1 above (subst (λ z. (span i j).0 ≤ℤ z) (sym r.4) b.0))
   where
     le_itself : (v : ℤ) → v ≤ℤ v
     le_itself v = omega (arith, ints)
@@ -195,7 +195,7 @@ single : (f : ℤ → ℤ → ℤ) (span : ℤ × ℤ → ℤ × ℤ → ℤ × 
 single f span h x y =
     let l = h.low (x, x) (y, y) (le_itself x) (le_itself y) in
     let u = h.high (x, x) (y, y) (le_itself x) (le_itself y) in
-    (l.2.1.1 ∙ same l.0 l.1 l.2.0 l.2.1.0, u.2.1.1 ∙ same u.0 u.1 u.2.0 u.2.1.0)
+    (l.4 ∙ same l.0 l.1 l.2 l.3, u.4 ∙ same u.0 u.1 u.2 u.3)
   where
     le_itself : (v : ℤ) → v ≤ℤ v
     le_itself v = omega (arith, ints)

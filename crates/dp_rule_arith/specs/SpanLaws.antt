@@ -94,13 +94,13 @@ least_of_four : (p q r s : ℤ) → (int_min (int_min p q) (int_min r s) ≤ℤ 
 least_of_four p q r s =
     let m = int_min (int_min p q) (int_min r s) in
     let o = min_of (int_min p q) (int_min r s) in
-    (at_most_both m (int_min p q) p o.0 (min_of p q).0, at_most_both m (int_min p q) q o.0 (min_of p q).1.0, at_most_both m (int_min r s) r o.1.0 (min_of r s).0, at_most_both m (int_min r s) s o.1.0 (min_of r s).1.0)
+    (at_most_both m (int_min p q) p o.0 (min_of p q).0, at_most_both m (int_min p q) q o.0 (min_of p q).1, at_most_both m (int_min r s) r o.1 (min_of r s).0, at_most_both m (int_min r s) s o.1 (min_of r s).1)
 
 greatest_of_four : (p q r s : ℤ) → (p ≤ℤ int_max (int_max p q) (int_max r s)) × (q ≤ℤ int_max (int_max p q) (int_max r s)) × (r ≤ℤ int_max (int_max p q) (int_max r s)) × (s ≤ℤ int_max (int_max p q) (int_max r s))
 greatest_of_four p q r s =
     let m = int_max (int_max p q) (int_max r s) in
     let o = max_of (int_max p q) (int_max r s) in
-    (at_most_both p (int_max p q) m (max_of p q).0 o.0, at_most_both q (int_max p q) m (max_of p q).1.0 o.0, at_most_both r (int_max r s) m (max_of r s).0 o.1.0, at_most_both s (int_max r s) m (max_of r s).1.0 o.1.0)
+    (at_most_both p (int_max p q) m (max_of p q).0 o.0, at_most_both q (int_max p q) m (max_of p q).1 o.0, at_most_both r (int_max r s) m (max_of r s).0 o.1, at_most_both s (int_max r s) m (max_of r s).1 o.1)
 
 -- the number is the operation's result for two numbers between the ends
 abbrev IsResult : (ℤ → ℤ → ℤ) → ℤ × ℤ → ℤ × ℤ → ℤ → Type 0
@@ -120,7 +120,7 @@ product_span_of = record {
   holds = λ i j x y h k.
       let l = least_of_four (i.0 *ℤ j.0) (i.0 *ℤ j.1) (i.1 *ℤ j.0) (i.1 *ℤ j.1) in
       let g = greatest_of_four (i.0 *ℤ j.0) (i.0 *ℤ j.1) (i.1 *ℤ j.0) (i.1 *ℤ j.1) in
-      (over_corners (product_span i j).0 i.0 i.1 j.0 j.1 x y h.0 h.1 k.0 k.1 l.0 l.1.0 l.1.1.0 l.1.1.1, under_corners (product_span i j).1 i.0 i.1 j.0 j.1 x y h.0 h.1 k.0 k.1 g.0 g.1.0 g.1.1.0 g.1.1.1);
+      (over_corners (product_span i j).0 i.0 i.1 j.0 j.1 x y h.0 h.1 k.0 k.1 l.0 l.1 l.2 l.3, under_corners (product_span i j).1 i.0 i.1 j.0 j.1 x y h.0 h.1 k.0 k.1 g.0 g.1 g.2 g.3);
   low = λ i j h k.
       let P = IsResult (λ x y. x *ℤ y) i j in
       let at = corner (λ x y. x *ℤ y) i j in
@@ -139,11 +139,11 @@ product_span_of = record {
 
 max_keeps : (a b x y : ℤ) → a ≤ℤ x → b ≤ℤ y → int_max a b ≤ℤ int_max x y
 max_keeps a b x y h k =
-    max_has (λ z. z ≤ℤ int_max x y) a b (at_most_both a x (int_max x y) h (max_of x y).0) (at_most_both b y (int_max x y) k (max_of x y).1.0)
+    max_has (λ z. z ≤ℤ int_max x y) a b (at_most_both a x (int_max x y) h (max_of x y).0) (at_most_both b y (int_max x y) k (max_of x y).1)
 
 min_keeps : (a b x y : ℤ) → a ≤ℤ x → b ≤ℤ y → int_min a b ≤ℤ int_min x y
 min_keeps a b x y h k =
-    min_has (λ z. int_min a b ≤ℤ z) x y (at_most_both (int_min a b) a x (min_of a b).0 h) (at_most_both (int_min a b) b y (min_of a b).1.0 k)
+    min_has (λ z. int_min a b ≤ℤ z) x y (at_most_both (int_min a b) a x (min_of a b).0 h) (at_most_both (int_min a b) b y (min_of a b).1 k)
 
 pub greater_span_of : IsSpanOf int_max greater_span
 greater_span_of = record {
@@ -188,14 +188,14 @@ low_holds : (a b x z : ℤ) → a ≤ℤ x → x ≤ℤ b → z ≡ pos (unsigne
 low_holds a b x z h k e =
     let o = abs_over x z e in
     max_has (λ w. w ≤ℤ z) (pos 0) (int_max a (neg_ℤ b)) o.0
-    (max_has (λ w. w ≤ℤ z) a (neg_ℤ b) (at_most_both a x z h o.1.0) (at_most_both (neg_ℤ b) (neg_ℤ x) z (turned x b k) o.1.1))
+    (max_has (λ w. w ≤ℤ z) a (neg_ℤ b) (at_most_both a x z h o.1) (at_most_both (neg_ℤ b) (neg_ℤ x) z (turned x b k) o.2))
   where
     turned : (x b : ℤ) → x ≤ℤ b → neg_ℤ b ≤ℤ neg_ℤ x
     turned x b k = omega (arith, ints)
 
 high_holds : (a b x : ℤ) → a ≤ℤ x → x ≤ℤ b → pos (unsigned_abs x) ≤ℤ int_max (neg_ℤ a) b
 high_holds a b x h k = elim (abs_is x) [
-  | inl r ↦ subst (λ z. z ≤ℤ int_max (neg_ℤ a) b) (sym r.1) (at_most_both x b (int_max (neg_ℤ a) b) k (max_of (neg_ℤ a) b).1.0)
+  | inl r ↦ subst (λ z. z ≤ℤ int_max (neg_ℤ a) b) (sym r.1) (at_most_both x b (int_max (neg_ℤ a) b) k (max_of (neg_ℤ a) b).1)
   | inr r ↦ subst (λ z. z ≤ℤ int_max (neg_ℤ a) b) (sym r.1) (at_most_both (neg_ℤ x) (neg_ℤ a) (int_max (neg_ℤ a) b) (turned a x h) (max_of (neg_ℤ a) b).0)
 ]
   where
@@ -211,7 +211,7 @@ signless_low i h =
     let inner = max_of i.0 (neg_ℤ i.1) in
     let outer = max_of (pos 0) (int_max i.0 (neg_ℤ i.1)) in
     elim (outer.2) [
-      | inl zero_is ↦ (pos 0, between i.0 i.1 (int_max i.0 (neg_ℤ i.1)) (subst (λ z. int_max i.0 (neg_ℤ i.1) ≤ℤ z) zero_is outer.1.0) inner.0 inner.1.0, zero_is)
+      | inl zero_is ↦ (pos 0, between i.0 i.1 (int_max i.0 (neg_ℤ i.1)) (subst (λ z. int_max i.0 (neg_ℤ i.1) ≤ℤ z) zero_is outer.1) inner.0 inner.1, zero_is)
       | inr inner_is ↦
           let sign = subst (λ z. pos 0 ≤ℤ z) inner_is outer.0 in
           elim (inner.2) [
@@ -230,7 +230,7 @@ signless_high : (i : ℤ × ℤ) → i.0 ≤ℤ i.1 → IsSignless i (absolute_s
 signless_high i h =
     let o = max_of (neg_ℤ i.0) i.1 in
     elim (o.2) [
-      | inl e ↦ (i.0, first_end i h, e ∙ abs_opposite i.0 (below i.0 i.1 h (subst (λ z. i.1 ≤ℤ z) e o.1.0)))
+      | inl e ↦ (i.0, first_end i h, e ∙ abs_opposite i.0 (below i.0 i.1 h (subst (λ z. i.1 ≤ℤ z) e o.1)))
       | inr e ↦ (i.1, last_end i h, e ∙ abs_same i.1 (above i.0 i.1 h (subst (λ z. neg_ℤ i.0 ≤ℤ z) e o.0)))
     ]
   where

@@ -66,8 +66,8 @@ impl Test for Absolute {
     }
 
     fn clash(&self, state: &State) -> Result<bool, Memory> {
-        let a = bounds(self.a, state);
-        let b = bounds(self.b, state);
+        let a = bounds(&self.a, state);
+        let b = bounds(&self.b, state);
         Ok(state.dead() || are_apart(absolute_span(a), b))
     }
 }

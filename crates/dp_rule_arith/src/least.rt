@@ -67,9 +67,9 @@ impl Test for Least {
     }
 
     fn clash(&self, state: &State) -> Result<bool, Memory> {
-        let a = bounds(self.a, state);
-        let b = bounds(self.b, state);
-        let c = bounds(self.c, state);
+        let a = bounds(&self.a, state);
+        let b = bounds(&self.b, state);
+        let c = bounds(&self.c, state);
         Ok(state.dead() || are_apart(lesser_span(a, b), c))
     }
 }

@@ -44,12 +44,41 @@ impl Scope {
     {
         match self {
             Scope::Zero => Scope::One(var),
-            Scope::One(own) if var < own => Scope::Two(var, own),
-            Scope::One(own) if own < var => Scope::Two(own, var),
-            Scope::Two(first, last) if var < first => Scope::Three(var, first, last),
-            Scope::Two(first, last) if last < var => Scope::Three(first, last, var),
-            Scope::Two(first, last) if first < var && var < last => Scope::Three(first, var, last),
-            other => other,
+            Scope::One(own) => Scope::with_one(own, var),
+            Scope::Two(first, last) => Scope::with_two(first, last, var),
+            Scope::Three(_, _, _) => self,
+        }
+    }
+
+    /// The variable and one other.
+    fn with_one(own: VarId, var: VarId) -> Scope
+        ensures listed { listed result ≡ with_variable var (own ∷ []) }
+    {
+        if var < own {
+            Scope::Two(var, own)
+        } else if own < var {
+            Scope::Two(own, var)
+        } else {
+            Scope::One(own)
+        }
+    }
+
+    /// The variable and two others.
+    fn with_two(first: VarId, last: VarId, var: VarId) -> Scope
+        ensures listed { listed result ≡ with_variable var (first ∷ last ∷ []) }
+    {
+        if var < first {
+            Scope::Three(var, first, last)
+        } else if first < var {
+            if var < last {
+                Scope::Three(first, var, last)
+            } else if last < var {
+                Scope::Three(first, last, var)
+            } else {
+                Scope::Two(first, last)
+            }
+        } else {
+            Scope::Two(first, last)
         }
     }
 

@@ -1,15 +1,16 @@
 // Intervals of what terms may be, and of what an operation makes of them.
 
-ghost use Rattle.std.specs.Prelude.{◌≡◌, ◌*ℤ◌, length};
+ghost use Rattle.std.specs.Prelude.{◌≡◌, ◌*ℤ◌, length, neg_ℤ, pos};
+ghost use Rattle.std.specs.Int.{int_max, int_min};
 ghost use Rattle.dp_domain.specs.Terms.{IsTermOf};
 ghost use Rattle.dp_rule_arith.specs.Operations.{absolute_span, are_apart, bounds, greater_span, lesser_span, product_span};
 
 use crate::{State, Term};
 
 /// The least value of the term at the state and its greatest; 0 where it has none.
-pub fn bounds(term: Term, state: &State) -> (i64, i64)
-    requires { IsTermOf (length state.now) term }
-    ensures { result ≡ bounds state.now term }
+pub fn bounds(term: &Term, state: &State) -> (i64, i64)
+    requires { IsTermOf (length state.now) term.now }
+    ensures { result ≡ bounds state.now term.now }
 {
     let lower = term.lower(state).unwrap_or(0);
     let upper = term.upper(state).unwrap_or(0);
@@ -27,12 +28,39 @@ pub fn are_apart(one: (i128, i128), other: (i64, i64)) -> bool
 pub fn product_span(a: (i64, i64), b: (i64, i64)) -> (i128, i128)
     ensures { result ≡ product_span a b }
 {
-    let (first, second) = (product(a.0, b.0), product(a.0, b.1));
-    let (third, fourth) = (product(a.1, b.0), product(a.1, b.1));
-    (
-        first.min(second).min(third.min(fourth)),
-        first.max(second).max(third.max(fourth)),
-    )
+    (least_product(a, b), greatest_product(a, b))
+}
+
+/// The least of the four products of ends.
+fn least_product(a: (i64, i64), b: (i64, i64)) -> i128
+    ensures { result ≡ (product_span a b).0 }
+{
+    let first = lesser(product(a.0, b.0), product(a.0, b.1));
+    let second = lesser(product(a.1, b.0), product(a.1, b.1));
+    lesser(first, second)
+}
+
+/// The greatest of the four products of ends.
+fn greatest_product(a: (i64, i64), b: (i64, i64)) -> i128
+    ensures { result ≡ (product_span a b).1 }
+{
+    let first = greater(product(a.0, b.0), product(a.0, b.1));
+    let second = greater(product(a.1, b.0), product(a.1, b.1));
+    greater(first, second)
+}
+
+/// The lesser of two numbers.
+fn lesser(x: i128, y: i128) -> i128
+    ensures { result ≡ int_min x y }
+{
+    x.min(y)
+}
+
+/// The greater of two numbers.
+fn greater(x: i128, y: i128) -> i128
+    ensures { result ≡ int_max x y }
+{
+    x.max(y)
 }
 
 /// The product of two numbers.
@@ -60,8 +88,26 @@ pub fn lesser_span(a: (i64, i64), b: (i64, i64)) -> (i128, i128)
 pub fn absolute_span(a: (i64, i64)) -> (i128, i128)
     ensures { result ≡ absolute_span a }
 {
-    let (lower, upper) = (i128::from(a.0), i128::from(a.1));
-    let nearest: i128 = lower.max(-upper);
-    let zero: i128 = 0;
-    (zero.max(nearest), (-lower).max(upper))
+    (nearest(a.0, a.1), farthest(a.0, a.1))
+}
+
+/// The least distance to 0 of the numbers from the lower to the upper.
+fn nearest(lower: i64, upper: i64) -> i128
+    ensures { result ≡ int_max (pos 0) (int_max lower (neg_ℤ upper)) }
+{
+    greater(0, greater(i128::from(lower), opposite(upper)))
+}
+
+/// The greatest distance to 0 of the numbers from the lower to the upper.
+fn farthest(lower: i64, upper: i64) -> i128
+    ensures { result ≡ int_max (neg_ℤ lower) upper }
+{
+    greater(opposite(lower), i128::from(upper))
+}
+
+/// The number with the other sign.
+fn opposite(number: i64) -> i128
+    ensures { result ≡ neg_ℤ number }
+{
+    -i128::from(number)
 }

@@ -104,6 +104,12 @@ fn push_tasks(text: &mut String, tasks: &[Task]) -> Result<(), Memory> {
     Ok(())
 }
 
+// A word and terms.
+fn push_named(text: &mut String, word: &str, terms: &[Term]) -> Result<(), Memory> {
+    text.push_str(word)?;
+    push_terms(text, terms)
+}
+
 /// Writes the part.
 pub fn push_part(text: &mut String, alloc: Global, part: &Part) -> Result<(), Memory> {
     match part {
@@ -139,5 +145,9 @@ pub fn push_part(text: &mut String, alloc: Global, part: &Part) -> Result<(), Me
             text.push_str("differ")?;
             push_terms(text, rule.terms())
         }
+        Part::Times(rule) => push_named(text, "times", &[rule.a, rule.b, rule.c]),
+        Part::Greatest(rule) => push_named(text, "maximum", &[rule.a, rule.b, rule.c]),
+        Part::Least(rule) => push_named(text, "minimum", &[rule.a, rule.b, rule.c]),
+        Part::Absolute(rule) => push_named(text, "absolute", &[rule.a, rule.b]),
     }
 }

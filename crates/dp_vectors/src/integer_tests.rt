@@ -9,7 +9,7 @@ const DECLARED: &str =
 // The greatest value of x, and the greatest integer of a text.
 const TOP: i64 = 1_000_000_000;
 
-const COMPARISONS: [Row; 51] = [
+const COMPARISONS: [Row; 73] = [
     ("int_le(x,y)", &[2, 2, 0], true),
     ("int_le(x,y)", &[3, 2, 0], false),
     ("int_le(x,y)", &[-TOP, TOP, 0], true),
@@ -54,6 +54,28 @@ const COMPARISONS: [Row; 51] = [
     ("int_plus(x,y,2000000000)", &[TOP, TOP, 0], true),
     ("int_plus(x,y,-2000000000)", &[-TOP, -TOP, 0], true),
     ("int_plus(x,x,y)", &[TOP, 0, 0], false),
+    ("int_times(x,y,6)", &[2, 3, 0], true),
+    ("int_times(x,y,6)", &[2, 2, 0], false),
+    ("int_times(x,y,-6)", &[-2, 3, 0], true),
+    ("int_times(x,x,y)", &[-3, 9, 0], true),
+    ("int_times(x,y,x)", &[5, 1, 0], true),
+    ("int_times(x,y,1000000000000000000)", &[TOP, TOP, 0], true),
+    ("int_times(x,y,1000000000000000000)", &[-TOP, -TOP, 0], true),
+    ("int_times(x,y,-1000000000000000000)", &[-TOP, TOP, 0], true),
+    ("int_times(x,y,1000000000000000000)", &[-TOP, TOP, 0], false),
+    ("int_max(x,y,3)", &[3, 2, 0], true),
+    ("int_max(x,y,3)", &[2, 3, 0], true),
+    ("int_max(x,y,2)", &[2, 3, 0], false),
+    ("int_max(x,y,x)", &[2, -3, 0], true),
+    ("int_min(x,y,2)", &[3, 2, 0], true),
+    ("int_min(x,y,2)", &[2, 3, 0], true),
+    ("int_min(x,y,3)", &[2, 3, 0], false),
+    ("int_min(x,y,x)", &[-2, 3, 0], true),
+    ("int_abs(x,7)", &[7, 0, 0], true),
+    ("int_abs(x,7)", &[-7, 0, 0], true),
+    ("int_abs(x,-7)", &[-7, 0, 0], false),
+    ("int_abs(x,x)", &[0, 0, 0], true),
+    ("int_abs(x,y)", &[-TOP, TOP, 0], true),
     ("bool2int(r,x)", &[1, 0, 1], true),
     ("bool2int(r,x)", &[0, 0, 0], true),
     ("bool2int(r,x)", &[1, 0, 0], false),

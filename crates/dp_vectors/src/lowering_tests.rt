@@ -32,7 +32,7 @@ fn parts_of(alloc: Global, constraint: &str) -> Result<Option<String>, Memory> {
     Ok(Some(parts))
 }
 
-const SUMS: [Row; 30] = [
+const SUMS: [Row; 35] = [
     ("int_lin_le([2,-1],[x,y],7)", "2x -1y <= 7; "),
     ("int_lin_le([1,1,3],[x,x,4],7)", "2x <= -5; "),
     ("int_lin_le([1,-1],[x,x],7)", "<= 7; "),
@@ -70,6 +70,11 @@ const SUMS: [Row; 30] = [
     ("int_ne_reif(x,4,false)", "1x <= 4; -1x <= -4; "),
     ("int_plus(x,y,7)", "1x 1y <= 7; -1x -1y <= -7; "),
     ("int_plus(x,y,z)", "1x 1y -1z <= 0; -1x -1y 1z <= 0; "),
+    ("int_times(x,y,7)", "times x y 7; "),
+    ("int_times(x,x,z)", "times x x z; "),
+    ("int_max(x,y,z)", "maximum x y z; "),
+    ("int_min(x,-3,z)", "minimum x -3 z; "),
+    ("int_abs(x,y)", "absolute x y; "),
     ("bool2int(a,x)", "-1x 1a <= 0; 1x -1a <= 0; "),
     ("bool2int(true,x)", "-1x <= -1; 1x <= 1; "),
     ("set_in(x,1..5)", "x in 1..5; "),
