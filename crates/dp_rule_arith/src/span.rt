@@ -35,18 +35,28 @@ pub fn product_span(a: (i64, i64), b: (i64, i64)) -> (i128, i128)
 fn least_product(a: (i64, i64), b: (i64, i64)) -> i128
     ensures { result ≡ (product_span a b).0 }
 {
-    let first = lesser(product(a.0, b.0), product(a.0, b.1));
-    let second = lesser(product(a.1, b.0), product(a.1, b.1));
-    lesser(first, second)
+    lesser(least_multiple(a.0, b), least_multiple(a.1, b))
 }
 
 /// The greatest of the four products of ends.
 fn greatest_product(a: (i64, i64), b: (i64, i64)) -> i128
     ensures { result ≡ (product_span a b).1 }
 {
-    let first = greater(product(a.0, b.0), product(a.0, b.1));
-    let second = greater(product(a.1, b.0), product(a.1, b.1));
-    greater(first, second)
+    greater(greatest_multiple(a.0, b), greatest_multiple(a.1, b))
+}
+
+/// The lesser of the products of the number and an end.
+fn least_multiple(number: i64, ends: (i64, i64)) -> i128
+    ensures { result ≡ int_min (number *ℤ ends.0) (number *ℤ ends.1) }
+{
+    lesser(product(number, ends.0), product(number, ends.1))
+}
+
+/// The greater of the products of the number and an end.
+fn greatest_multiple(number: i64, ends: (i64, i64)) -> i128
+    ensures { result ≡ int_max (number *ℤ ends.0) (number *ℤ ends.1) }
+{
+    greater(product(number, ends.0), product(number, ends.1))
 }
 
 /// The lesser of two numbers.
