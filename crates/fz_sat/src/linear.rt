@@ -58,7 +58,14 @@ pub fn times_holds(row: &Row) -> bool
     ensures { let g = given row.now.items.now row.now.args.now (valuation row.now.values.now) in
         result ≡ int_eq (g.number 0 *ℤ g.number 1) (g.number 2) }
 {
-    i128::from(row.number(0)) * i128::from(row.number(1)) == i128::from(row.number(2))
+    multiplied(row.number(0), row.number(1)) == i128::from(row.number(2))
+}
+
+/// The product of two numbers.
+fn multiplied(x: i64, y: i64) -> i128
+    ensures { result ≡ x *ℤ y }
+{
+    i128::from(x) * i128::from(y)
 }
 
 /// Whether the second number is the first without its sign.
