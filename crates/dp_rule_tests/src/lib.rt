@@ -6,6 +6,8 @@ mod all_different_tests;
 #[cfg(test)]
 mod all_different_turn_tests;
 #[cfg(test)]
+mod arith_tests;
+#[cfg(test)]
 mod clause_tests;
 #[cfg(test)]
 mod clause_turn_tests;
