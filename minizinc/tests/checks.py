@@ -248,11 +248,11 @@ def bounds_too_wide() -> None:
 
 @test
 def constraint_of_another_library() -> None:
-    with Workshop(m_fzn="var 0..3: x;\nconstraint int_times(x,x,x);\nsolve satisfy;\n") as shop:
+    with Workshop(m_fzn="var 0..3: x;\nconstraint int_div(x,x,x);\nsolve satisfy;\n") as shop:
         answer = shop.person("solve", "m.fzn", "out")
         want(answer.status == 3, f"status {answer.status}")
-        item = "constraint int_times(x,x,x);"
-        for part in ("the product `x * y`", "(line 2, column 12 of", item, "instead: compile with"):
+        item = "constraint int_div(x,x,x);"
+        for part in ("the quotient `x div y`", "(line 2, column 12 of", item, "instead: compile with"):
             want_in(part, answer.errors)
 
 
