@@ -2,8 +2,6 @@
 % reads it and its line here is removed: without a body the compiler keeps it.
 include "drcp_product.mzn";           % int_times
 include "drcp_division.mzn";          % int_div, int_mod
-include "drcp_extremes_of_two.mzn";   % int_max, int_min
-include "drcp_absolute.mzn";          % int_abs
 include "drcp_bool_linear.mzn";       % bool_lin_eq, bool_lin_le, and their reified forms
 include "drcp_parity.mzn";            % array_bool_xor
 
