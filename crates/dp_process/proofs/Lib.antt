@@ -1,6 +1,10 @@
 pub mod MetLaws
 pub mod PieceLaws
 pub mod MarkLaws
+pub mod WaveLaws
+pub mod WaveSteps
+pub mod TakeLaws
+pub mod EndLaws
 pub mod WritingLaws
 pub mod LogLaws
 pub mod ClosureLaws

@@ -13,12 +13,12 @@ use Rattle.dp_process.specs.Met.{IsClosed, IsMet, is_met, last_of, met_by, uses_
 
 -- ---- the place is one of these
 
-eq_of : (i : ℕ) (xs : List ℕ) → list_any (nat_eq i) xs ≡ true → Among i xs
+pub eq_of : (i : ℕ) (xs : List ℕ) → list_any (nat_eq i) xs ≡ true → Among i xs
 eq_of i xs h =
     let found = list_any-some (nat_eq i) xs h in
     subst (λ (x : ℕ). Among x xs) (sym (eqb-true i found.0 found.2)) found.1
 
-eq_for : (i : ℕ) (xs : List ℕ) → Among i xs → list_any (nat_eq i) xs ≡ true
+pub eq_for : (i : ℕ) (xs : List ℕ) → Among i xs → list_any (nat_eq i) xs ≡ true
 eq_for i xs h = list_any-at (nat_eq i) xs i h (eq-eqb i i refl)
 
 -- ---- going down

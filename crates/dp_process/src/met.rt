@@ -1,6 +1,6 @@
-// The nogoods that the conclusion rests on, found and justified from the last one back.
+// The nogoods that the conclusion rests on, found and justified: by one worker from the last one back.
 
-ghost use Rattle.std.specs.Prelude.{◌≡◌, ℕ, ◌-◌, ◌==◌, ◌^◌, ◌<◌, ◌||◌, ◌&&◌, true, false, nat_eq, length, slice_index_or, slice_set, IfOk, OnOk};
+ghost use Rattle.std.specs.Prelude.{◌≡◌, ◌^◌, ◌<◌, ◌≤◌, ◌||◌, ◌&&◌, false, nat_eq, length, slice_index_or, IfOk, OnOk};
 ghost use Rattle.std.specs.List.{list_any};
 ghost use Rattle.dp_base.specs.Lists.{Each};
 ghost use Rattle.dp_domain.specs.States.{AreOf};
@@ -10,12 +10,16 @@ ghost use Rattle.dp_parts.specs.Problems.{posed};
 ghost use Rattle.dp_process.specs.Met.{uses_at};
 ghost use Rattle.dp_process.specs.Marks.{AreMarked, IsJustified, outcome_of};
 
+use crate::found::{first_marks, mark};
+use crate::waves::justify_in_waves;
 use dp_base::Memory;
 use dp_engine::{Engine, Index};
 use dp_justify::{Piece, justify};
 use dp_parts::Problem;
+use dp_pool::Gate;
 use dp_rule_clause::Nogood;
 use std::alloc::Global;
+use std::thread::Threads;
 
 /// What is found of the nogoods that are met.
 #[derive(Drop)]
@@ -35,12 +39,31 @@ pub(crate) enum Outcome {
     Fails,
 }
 
-/// Justifies each nogood that is met once, from the conclusion back, until one does not follow.
-pub(crate) fn justify_met(
+/// Justifies each nogood that is met once: by one worker from the conclusion back, by several in waves.
+pub(crate) fn justify_met<R: Threads + Sync, G: Gate>(
+    rt: &R,
     alloc: Global,
     problem: &Problem,
     nogoods: &[Nogood],
+    workers: usize,
+    gate: &G,
 ) -> Result<Justified, Memory>
+    requires some_workers { 1 ≤ workers }
+    requires few_workers { workers ≤ 64 }
+    requires some { 0 < length nogoods.now }
+    requires few { length nogoods.now < 2 ^ 32 }
+    requires nogoods { Each (AreOf problem.now.initial) nogoods.now }
+    ensures { IfOk result (IsJustified (posed problem.now) nogoods.now) }
+{
+    if workers == 1 {
+        justify_down(alloc, problem, nogoods)
+    } else {
+        justify_in_waves(rt, alloc, problem, nogoods, workers, gate)
+    }
+}
+
+/// Justifies each nogood that is met, from the conclusion back, until one does not follow.
+fn justify_down(alloc: Global, problem: &Problem, nogoods: &[Nogood]) -> Result<Justified, Memory>
     requires some { 0 < length nogoods.now }
     requires few { length nogoods.now < 2 ^ 32 }
     requires nogoods { Each (AreOf problem.now.initial) nogoods.now }
@@ -61,17 +84,6 @@ pub(crate) fn justify_met(
         }
     }
     Ok(Justified::All(pieces))
-}
-
-/// Marks of this many places, of which the last is marked.
-fn first_marks(alloc: Global, count: usize) -> Result<Vec<bool>, Memory>
-    requires { 0 < count }
-    ensures count { IfOk result (λ marks. length marks.items ≡ count) }
-    ensures marks { IfOk result (λ marks. AreMarked marks.items (λ i. i == count - 1)) }
-{
-    let mut marks = vec![in alloc; false; count]?;
-    marks[count - 1] = true;
-    Ok(marks)
 }
 
 /// Justifies the nogood at the place, where it is marked, and marks those that its justification uses.
@@ -101,23 +113,4 @@ fn justify_place<'i, 'p>(
         }
         None => Ok(Outcome::Fails),
     }
-}
-
-/// Marks the places.
-fn mark(marks: &mut Vec<bool>, places: &[u32])
-    requires { Each (λ place. place < length marks.old.items) places.now }
-    ensures count { length marks.new.items ≡ length marks.old.items }
-    ensures marks { AreMarked marks.new.items (λ i. slice_index_or marks.old.items i false || list_any (nat_eq i) places.now) }
-{
-    for place in places {
-        mark_one(marks, *place as usize);
-    }
-}
-
-/// Marks the place.
-fn mark_one(marks: &mut Vec<bool>, place: usize)
-    requires { place < length marks.old.items }
-    ensures { marks.new.items ≡ slice_set marks.old.items place true }
-{
-    marks[place] = true;
 }

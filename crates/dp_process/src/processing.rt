@@ -1,6 +1,6 @@
 // The processed log of a scaffold.
 
-ghost use Rattle.std.specs.Prelude.{◌≡◌, IfOk, ◌<◌, length};
+ghost use Rattle.std.specs.Prelude.{◌≡◌, IfOk, ◌<◌, ◌≤◌, length};
 ghost use Rattle.dp_base.specs.Lists.{Each};
 ghost use Rattle.dp_lines.specs.Allowed.{IsAllowed};
 ghost use Rattle.dp_judge.specs.Logs.{judged_log};
@@ -20,8 +20,10 @@ use crate::met::{Justified, justify_met};
 use crate::write::write_log;
 use dp_base::Text;
 use dp_parts::Problem;
+use dp_pool::Gate;
 use dp_scaffold::Scaffold;
 use std::alloc::Global;
+use std::thread::Threads;
 
 /// A processed log.
 #[derive(Debug, Drop)]
@@ -37,13 +39,19 @@ pub struct Processed {
 /// The log of the scaffold's nogoods that its conclusion rests on: each is derived by the kept turns of
 /// its run, which stand before it. A nogood that does not follow is refused: of those that the
 /// conclusion rests on, the last. No test of a log refuses a line of the answer, and what it concludes,
-/// which is the scaffold's claim, is right of the problem.
-pub fn process(
+/// which is the scaffold's claim, is right of the problem. So many workers look for justifications at once,
+/// and the gate is told of each that they look for; the answer is the same for any number and any gate.
+pub fn process<R: Threads + Sync, G: Gate>(
+    rt: &R,
     alloc: Global,
     problem: &Problem,
     scaffold: &Scaffold,
+    workers: usize,
+    gate: &G,
 ) -> Result<Processed, ProcessRefusal>
-    requires { IsScaffoldOf problem.now scaffold.now }
+    requires scaffold { IsScaffoldOf problem.now scaffold.now }
+    requires some_workers { 1 ≤ workers }
+    requires few_workers { workers ≤ 64 }
     ensures follows { IfOk result (λ _. EachMetFollows (posed problem.now) scaffold.now.nogoods) }
     ensures failing { NamesFailing problem.now scaffold.now result }
     ensures text { IfOk result (λ done. done.text ≡ text_of (log_of problem.now scaffold.now)) }
@@ -57,17 +65,22 @@ pub fn process(
     // That names lead back, and what a scaffold keeps, is known by a look at them.
     let _names = problem.name_count();
     let _nogoods = scaffold.nogoods();
-    let done = process_met(alloc, problem, scaffold)?;
+    let done = process_met(rt, alloc, problem, scaffold, workers, gate)?;
     Ok(done)
 }
 
 /// Justifies the nogoods that are met, and writes the log of those.
-fn process_met(
+fn process_met<R: Threads + Sync, G: Gate>(
+    rt: &R,
     alloc: Global,
     problem: &Problem,
     scaffold: &Scaffold,
+    workers: usize,
+    gate: &G,
 ) -> Result<Processed, ProcessRefusal>
-    requires { IsScaffoldOf problem.now scaffold.now }
+    requires scaffold { IsScaffoldOf problem.now scaffold.now }
+    requires some_workers { 1 ≤ workers }
+    requires few_workers { workers ≤ 64 }
     ensures follows { IfOk result (λ _. EachMetFollows (posed problem.now) scaffold.now.nogoods) }
     ensures failing { NamesFailing problem.now scaffold.now result }
     ensures text { IfOk result (λ done. done.text ≡ text_of (log_of problem.now scaffold.now)) }
@@ -77,7 +90,7 @@ fn process_met(
 {
     // What a problem keeps is known by a look at it.
     let _initial = problem.initial();
-    match justify_met(alloc, problem, scaffold.nogoods())? {
+    match justify_met(rt, alloc, problem, scaffold.nogoods(), workers, gate)? {
         Justified::All(pieces) => Ok(write_log(alloc, problem, scaffold, pieces)?),
         Justified::Failing(place) => Err(not_following(scaffold, place)),
     }

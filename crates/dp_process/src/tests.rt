@@ -12,12 +12,14 @@ use super::*;
 use dp_base::{Memory, Name};
 use dp_domain::{Atom, Dom, Op, State, Test, VarId, Verdict};
 use dp_parts::{Goal, Part, Parts, Problem};
+use dp_pool::Open;
 use dp_rule_clause::Nogood;
 use dp_rule_linear::LinLe;
 use dp_scaffold::Scaffold;
 use indexmap::IndexMap;
 use std::alloc::Global;
 use std::test::Fail;
+use std::thread::Threads;
 
 type Used = (u32, Op, i64);
 
@@ -281,8 +283,28 @@ fn scaffold_of(
     Ok(Scaffold::new(nogoods, lines, ids, claim))
 }
 
-// The answer for the nogoods and the claim.
-fn answer(
+// The answer for the nogoods and the claim, by so many workers.
+fn answer_by<R: Threads + Sync>(
+    rt: &R,
+    alloc: Global,
+    problem: &Problem,
+    rows: &[Row],
+    line: u64,
+    claim: Verdict,
+    workers: usize,
+) -> Result<Processed, ProcessRefusal>
+    requires variables { length problem.now.initial ≡ 6 }
+    requires claim { IsOfGoal problem.now claim }
+    requires some { 1 ≤ workers }
+    requires few { workers ≤ 64 }
+{
+    let scaffold = scaffold_of(alloc, problem, rows, line, claim)?;
+    process(rt, alloc, problem, &scaffold, workers, &Open)
+}
+
+// The answer for the nogoods and the claim, by one worker.
+fn answer<R: Threads + Sync>(
+    rt: &R,
     alloc: Global,
     problem: &Problem,
     rows: &[Row],
@@ -292,17 +314,21 @@ fn answer(
     requires variables { length problem.now.initial ≡ 6 }
     requires claim { IsOfGoal problem.now claim }
 {
-    let scaffold = scaffold_of(alloc, problem, rows, line, claim)?;
-    process(alloc, problem, &scaffold)
+    answer_by(rt, alloc, problem, rows, line, claim, 1)
 }
 
 // The answer for no nogood and the claim that obj is at least the number.
-fn bound_answer(alloc: Global, problem: &Problem, value: i64) -> Result<Processed, ProcessRefusal>
+fn bound_answer<R: Threads + Sync>(
+    rt: &R,
+    alloc: Global,
+    problem: &Problem,
+    value: i64,
+) -> Result<Processed, ProcessRefusal>
     requires variables { length problem.now.initial ≡ 6 }
     requires goal { problem.now.goal ≡ Minimize 5 }
 {
     match Atom::new(VarId(5), Op::Ge, value) {
-        Some(atom) => answer(alloc, problem, &[], 1, Verdict::Bound(atom)),
+        Some(atom) => answer(rt, alloc, problem, &[], 1, Verdict::Bound(atom)),
         None => Err(ProcessRefusal::Memory),
     }
 }
@@ -343,7 +369,7 @@ c UNSAT
 #[test]
 fn two_inequalities_are_refuted(rt: HostRuntime) -> Result<(), Fail> {
     let problem = two_inequalities(rt.alloc())?;
-    let answer = answer(rt.alloc(), &problem, &[], 1, Verdict::Unsat);
+    let answer = answer(&rt, rt.alloc(), &problem, &[], 1, Verdict::Unsat);
     assert!(rt; is_log(answer, LINEAR_TEXT, 0, 8));
     Ok(())
 }
@@ -375,7 +401,7 @@ c UNSAT
 #[test]
 fn a_nogood_that_nothing_rests_on_is_left_out(rt: HostRuntime) -> Result<(), Fail> {
     let problem = clauses(rt.alloc(), true)?;
-    let answer = answer(rt.alloc(), &problem, CLAUSE_ROWS, 5, Verdict::Unsat);
+    let answer = answer(&rt, rt.alloc(), &problem, CLAUSE_ROWS, 5, Verdict::Unsat);
     assert!(rt; is_log(answer, CLAUSE_TEXT, 1, 6));
     Ok(())
 }
@@ -383,7 +409,7 @@ fn a_nogood_that_nothing_rests_on_is_left_out(rt: HostRuntime) -> Result<(), Fai
 #[test]
 fn a_nogood_that_does_not_follow_is_named(rt: HostRuntime) -> Result<(), Fail> {
     let problem = clauses(rt.alloc(), false)?;
-    let answer = answer(rt.alloc(), &problem, CLAUSE_ROWS, 5, Verdict::Unsat);
+    let answer = answer(&rt, rt.alloc(), &problem, CLAUSE_ROWS, 5, Verdict::Unsat);
     let refusal = ProcessRefusal::NotFollowing {
         place: 1,
         line: 4,
@@ -409,13 +435,31 @@ const FAILING_ROWS: &[Row] = &[
 #[test]
 fn the_last_of_two_that_fail_is_named(rt: HostRuntime) -> Result<(), Fail> {
     let problem = no_constraint(rt.alloc(), 3)?;
-    let answer = answer(rt.alloc(), &problem, FAILING_ROWS, 4, Verdict::Unsat);
+    let answer = answer(&rt, rt.alloc(), &problem, FAILING_ROWS, 4, Verdict::Unsat);
     let refusal = ProcessRefusal::NotFollowing {
         place: 1,
         line: 3,
         id: 2,
     };
     assert!(rt; is_refusal(answer, refusal));
+    Ok(())
+}
+
+#[test]
+fn more_workers_give_the_same_text(rt: HostRuntime) -> Result<(), Fail> {
+    let problem = clauses(rt.alloc(), true)?;
+    let two = answer_by(&rt, rt.alloc(), &problem, CLAUSE_ROWS, 5, Verdict::Unsat, 2);
+    let most = answer_by(
+        &rt,
+        rt.alloc(),
+        &problem,
+        CLAUSE_ROWS,
+        5,
+        Verdict::Unsat,
+        64,
+    );
+    assert!(rt; is_log(two, CLAUSE_TEXT, 1, 6));
+    assert!(rt; is_log(most, CLAUSE_TEXT, 1, 6));
     Ok(())
 }
 
@@ -433,9 +477,9 @@ c 1
 #[test]
 fn bounds_are_concluded(rt: HostRuntime) -> Result<(), Fail> {
     let problem = at_least_seven(rt.alloc())?;
-    let answer = bound_answer(rt.alloc(), &problem, 7);
+    let answer = bound_answer(&rt, rt.alloc(), &problem, 7);
     assert!(rt; is_log(answer, SEVEN_TEXT, 0, 2));
-    let answer = bound_answer(rt.alloc(), &problem, 0);
+    let answer = bound_answer(&rt, rt.alloc(), &problem, 0);
     assert!(rt; is_log(answer, ZERO_TEXT, 0, 1));
     Ok(())
 }
@@ -443,7 +487,7 @@ fn bounds_are_concluded(rt: HostRuntime) -> Result<(), Fail> {
 #[test]
 fn a_variable_without_values_needs_no_step(rt: HostRuntime) -> Result<(), Fail> {
     let problem = no_constraint(rt.alloc(), -1)?;
-    let answer = answer(rt.alloc(), &problem, &[], 1, Verdict::Unsat);
+    let answer = answer(&rt, rt.alloc(), &problem, &[], 1, Verdict::Unsat);
     assert!(rt; is_log(answer, b"n 1\nc UNSAT\n", 0, 1));
     Ok(())
 }

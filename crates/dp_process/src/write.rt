@@ -100,7 +100,7 @@ fn write_nogoods(
 }
 
 /// Takes the last of the pieces.
-fn take_last(pieces: &mut Vec<Option<Piece>>) -> Option<Piece>
+pub(crate) fn take_last(pieces: &mut Vec<Option<Piece>>) -> Option<Piece>
     requires { 0 < length pieces.old.items }
     ensures { pieces.old.items ≡ pieces.new.items ++ result ∷ [] }
 {

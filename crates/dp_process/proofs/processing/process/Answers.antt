@@ -11,17 +11,17 @@ use Rattle.dp_process.proofs.RightLaws.{accepted_right}
 use Rattle.dp_process.proofs.processing.process.Goals as goal
 
 pub returns-clause-accepted : goal.returns-clause-accepted
-returns-clause-accepted c =
-    log_accepted c.args.problem.now c.args.scaffold.now c.name_count-names.ensures.problem c.name_count-names.ensures.names c.nogoods-nogoods.ensures.scaffold c.requires
+returns-clause-accepted g c =
+    log_accepted c.args.problem.now c.args.scaffold.now c.name_count-names.ensures.problem c.name_count-names.ensures.names c.nogoods-nogoods.ensures.scaffold c.requires.scaffold
     c.in_ok-done.ensures.follows
 
 pub returns-clause-right : goal.returns-clause-right
-returns-clause-right c =
-    accepted_right c.args.problem.now c.name_count-names.ensures.problem (lines (log_of c.args.problem.now c.args.scaffold.now)) c.args.scaffold.now.claim (returns-clause-accepted c)
+returns-clause-right g c =
+    accepted_right c.args.problem.now c.name_count-names.ensures.problem (lines (log_of c.args.problem.now c.args.scaffold.now)) c.args.scaffold.now.claim (returns-clause-accepted g c)
 
 pub returns-clause-checked : goal.returns-clause-checked
-returns-clause-checked c =
+returns-clause-checked g c =
     subst (λ (text : List ℕ). AreShort (lines (log_of c.args.problem.now c.args.scaffold.now)) text → judged_log (posed c.args.problem.now) text ≡ Accepted c.args.scaffold.now.claim)
     (sym c.in_ok-done.ensures.text)
-    (text_accepted c.args.problem.now c.args.scaffold.now c.name_count-names.ensures.problem c.name_count-names.ensures.names c.nogoods-nogoods.ensures.scaffold c.requires
+    (text_accepted c.args.problem.now c.args.scaffold.now c.name_count-names.ensures.problem c.name_count-names.ensures.names c.nogoods-nogoods.ensures.scaffold c.requires.scaffold
     c.in_ok-done.ensures.follows c.in_ok-done.ensures.allowed)

@@ -2,7 +2,7 @@ use Rattle.std.proofs.Common.{◌≡◌, ◌||◌, false, length, get_or, take}
 use Rattle.std.specs.Prelude.{nat_eq}
 use Rattle.std.specs.List.{list_any}
 use Rattle.dp_process.specs.Marks.{AreMarked}
-use Rattle.dp_process.proofs.met.mark.Given as goal
+use Rattle.dp_process.proofs.found.mark.Given as goal
 
 abbrev pub invariant-loop-place : goal.invariant-loop-place
 invariant-loop-place l = record {

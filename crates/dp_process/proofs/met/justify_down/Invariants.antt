@@ -1,7 +1,7 @@
 use Rattle.dp_engine.specs.Indexes.{IsOver}
 use Rattle.dp_parts.specs.Problems.{posed}
 use Rattle.dp_process.proofs.MarkLaws.{IsDown}
-use Rattle.dp_process.proofs.met.justify_met.Given as goal
+use Rattle.dp_process.proofs.met.justify_down.Given as goal
 
 abbrev pub invariant-loop-above : goal.invariant-loop-above
 invariant-loop-above l = record {

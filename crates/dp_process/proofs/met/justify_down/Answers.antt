@@ -8,7 +8,7 @@ use Rattle.dp_parts.specs.Problems.{posed}
 use Rattle.dp_process.specs.Marks.{AreJustified, AreMarked, outcome_of, pieces_down}
 use Rattle.dp_process.specs.Met.{uses_at}
 use Rattle.dp_process.proofs.MarkLaws.{down-fails, down-next}
-use Rattle.dp_process.proofs.met.justify_met.Goals as goal
+use Rattle.dp_process.proofs.met.justify_down.Goals as goal
 
 pub loop-above-init : goal.loop-above-init
 loop-above-init c = record {

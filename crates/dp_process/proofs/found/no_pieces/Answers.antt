@@ -1,0 +1,7 @@
+-- One place more.
+use Rattle.std.proofs.Common.{◌∷◌, [], ◌++◌, None, ◌∙◌, ap}
+use Rattle.std.proofs.lemmas.List.{replicate_more}
+use Rattle.dp_process.proofs.found.no_pieces.Goals as goal
+
+pub loop-preserved : goal.loop-preserved
+loop-preserved c = c.in_ok-push.ensures.items ∙ ap (λ xs. xs ++ None ∷ []) c.loop.invariant ∙ replicate_more c.loop.counter None
