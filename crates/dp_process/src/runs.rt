@@ -68,7 +68,7 @@ fn runs_of<'a>(
     let size = places.len() / workers + 1;
     let mut runs = Vec::new(alloc);
     let mut rest = places;
-    while rest.len() > size {
+    'cuts: while rest.len() > size {
         let (front, back) = rest.split_at(size);
         runs.push(front)?;
         rest = back;
