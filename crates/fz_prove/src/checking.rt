@@ -11,44 +11,58 @@ use crate::Proof;
 use dp_base::{Memory, Text};
 use dp_judge::{LogAnswer, judge_log};
 use dp_parts::Problem;
+use dp_pool::Gate;
 use dp_process::{ProcessRefusal, process};
 use dp_scaffold::{Scaffold, ScaffoldAnswer, read_scaffold};
 use std::alloc::Global;
+use std::thread::Threads;
 
 // The most bytes that are looked at; no memory holds more.
 const MOST: usize = 1 << 62;
 
 /// The end of a scaffold's bytes, behind the text of their outcome.
-pub(crate) fn check_bytes(
+pub(crate) fn check_bytes<R: Threads + Sync, G: Gate>(
+    rt: &R,
     alloc: Global,
     problem: &Problem,
     text: Text,
     bytes: &[u8],
+    workers: usize,
+    gate: &G,
 ) -> Result<Proof, Memory>
+    requires some_workers { 1 ≤ workers }
+    requires few_workers { workers ≤ 64 }
     ensures { IfOk result (IsChecked problem.now text bytes.now) }
 {
     if bytes.len() > MOST {
         return Err(Memory);
     }
     match read_scaffold(alloc, problem, bytes)? {
-        ScaffoldAnswer::Given(scaffold) => check_scaffold(alloc, problem, text, &scaffold),
+        ScaffoldAnswer::Given(scaffold) => check_scaffold(
+            rt, alloc, problem, text, &scaffold, workers, gate,
+        ),
         ScaffoldAnswer::Unread(refusal) => Ok(Proof::ScaffoldUnread(refusal)),
         ScaffoldAnswer::Refused(refusal, line) => Ok(Proof::ScaffoldRefused(refusal, line)),
     }
 }
 
 // The end of a scaffold.
-fn check_scaffold(
+fn check_scaffold<R: Threads + Sync, G: Gate>(
+    rt: &R,
     alloc: Global,
     problem: &Problem,
     text: Text,
     scaffold: &Scaffold,
+    workers: usize,
+    gate: &G,
 ) -> Result<Proof, Memory>
-    requires { IsScaffoldOf problem.now scaffold.now }
+    requires scaffold { IsScaffoldOf problem.now scaffold.now }
+    requires some_workers { 1 ≤ workers }
+    requires few_workers { workers ≤ 64 }
     ensures ending { IfOk result (IsEndOf problem.now text scaffold.now) }
     ensures passed { IfOk result (IsPassedOf problem.now text scaffold.now) }
 {
-    match process(alloc, problem, scaffold) {
+    match process(rt, alloc, problem, scaffold, workers, gate) {
         Ok(processed) => {
             let proof = check_log(alloc, problem, text, processed.text.bytes())?;
             Ok(proof)

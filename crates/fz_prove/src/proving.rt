@@ -13,23 +13,31 @@ use crate::checking::check_bytes;
 use dp_base::{Memory, Text};
 use dp_desk::{Desk, MemoryDesk, Out};
 use dp_parts::Problem;
+use dp_pool::Gate;
 use dp_solver::{Outcome, solve};
 use fz_model::Model;
 use fz_solve::outcome_text;
 use std::alloc::Global;
+use std::thread::Threads;
 
 /// Solves the problem of a model with at most so many nogoods, makes the scaffold into a log, and checks that, all in
-/// memory. The limits of scaffolds and logs are those of their readers.
-pub fn prove_model(
+/// memory. The limits of scaffolds and logs are those of their readers. So many workers make the log, and the gate is
+/// told of what they take; the answer is the same for any number and any gate.
+pub fn prove_model<R: Threads + Sync, G: Gate>(
+    rt: &R,
     alloc: Global,
     model: &Model,
     problem: &Problem,
     conflicts: u64,
+    workers: usize,
+    gate: &G,
 ) -> Result<Proof, Memory>
     requires problem { problem.now ≡ problem_of model.now }
     requires same { (s : ℕ → ℤ) → Satisfies model.now s ↔ IsSolution s problem.now }
     requires some { 1 ≤ conflicts }
     requires few { conflicts ≤ 4000000000 }
+    requires some_workers { 1 ≤ workers }
+    requires few_workers { workers ≤ 64 }
     ensures { IfOk result (Proves model.now problem.now conflicts) }
 {
     // What a model and a problem keep, and that names lead back, is known by a look at them.
@@ -39,7 +47,7 @@ pub fn prove_model(
     let outcome = search(alloc, problem, conflicts, &mut desk)?;
     match desk.written(Out::First) {
         Some(scaffold) => {
-            let proof = tell(alloc, model, problem, &outcome, scaffold)?;
+            let proof = tell(rt, alloc, model, problem, &outcome, scaffold, workers, gate)?;
             Ok(proof)
         }
         None => Err(Memory),
@@ -67,18 +75,25 @@ fn search(
 }
 
 // The end of an outcome, whose scaffold has these bytes.
-fn tell(
+fn tell<R: Threads + Sync, G: Gate>(
+    rt: &R,
     alloc: Global,
     model: &Model,
     problem: &Problem,
     outcome: &Outcome,
     scaffold: &[u8],
+    workers: usize,
+    gate: &G,
 ) -> Result<Proof, Memory>
+    requires some_workers { 1 ≤ workers }
+    requires few_workers { workers ≤ 64 }
     ensures { IfOk result (IsTold model.now problem.now scaffold.now outcome.now) }
 {
     let text = Text::new(outcome_text(alloc, model, outcome)?);
     match outcome {
-        Outcome::Unsat | Outcome::Optimal(..) => check_bytes(alloc, problem, text, scaffold),
+        Outcome::Unsat | Outcome::Optimal(..) => {
+            check_bytes(rt, alloc, problem, text, scaffold, workers, gate)
+        }
         Outcome::Solution(_) => Ok(Proof::Solved(text)),
         Outcome::Unknown(_) => Ok(Proof::Unknown(text)),
     }

@@ -4,9 +4,11 @@ use super::*;
 use dp_base::Memory;
 use dp_domain::{Atom, Op, VarId, Verdict};
 use dp_lower::lower;
+use dp_pool::Open;
 use fz_items::read_model;
 use std::alloc::Global;
 use std::test::Fail;
+use std::thread::Threads;
 
 // Two inequalities that no x and y meet together.
 const NONE: &str =
@@ -28,15 +30,23 @@ const TOUCHING: &str =
 const MOST: &str =
     "var 0..9: gain:: output_var;\nconstraint int_le(gain,4);\nsolve maximize gain;\n";
 
-// Proves the model of a text.
-fn proved(alloc: Global, text: &str, conflicts: u64) -> Result<Proof, Memory>
+// Proves the model of a text, by so many workers.
+fn proved<R: Threads + Sync>(
+    rt: &R,
+    alloc: Global,
+    text: &str,
+    conflicts: u64,
+    workers: usize,
+) -> Result<Proof, Memory>
     requires some { 1 ≤ conflicts }
     requires few { conflicts ≤ 4000000000 }
+    requires some_workers { 1 ≤ workers }
+    requires few_workers { workers ≤ 64 }
 {
     match read_model(alloc, text.as_bytes()) {
         Ok(model) => {
             let problem = lower(alloc, &model)?;
-            prove_model(alloc, &model, &problem, conflicts)
+            prove_model(rt, alloc, &model, &problem, conflicts, workers, &Open)
         }
         Err(_) => Err(Memory),
     }
@@ -87,8 +97,10 @@ fn claims_are_accepted(rt: HostRuntime) -> Result<(), Fail> {
         ("most", MOST, most, bound_at(0, Op::Le, 4)),
     ];
     for (name, model, answer, claim) in rows {
-        let proof = proved(alloc, model, 1000)?;
-        assert!(rt; is_accepted(&proof, answer, claim), "{name}: {proof:?}");
+        for workers in [1, 3] {
+            let proof = proved(&rt, alloc, model, 1000, workers)?;
+            assert!(rt; is_accepted(&proof, answer, claim), "{name}: {proof:?}");
+        }
     }
     Ok(())
 }
@@ -96,9 +108,9 @@ fn claims_are_accepted(rt: HostRuntime) -> Result<(), Fail> {
 #[test]
 fn outcomes_without_a_claim_are_told_alone(rt: HostRuntime) -> Result<(), Fail> {
     let alloc = rt.alloc();
-    let proof = proved(alloc, TOUCHING, 1000)?;
+    let proof = proved(&rt, alloc, TOUCHING, 1000, 1)?;
     assert!(rt; is_solved(&proof, "s = 2;\n----------\n"), "{proof:?}");
-    let proof = proved(alloc, DIFFERENT, 1)?;
+    let proof = proved(&rt, alloc, DIFFERENT, 1, 1)?;
     assert!(rt; is_unknown(&proof, "=====UNKNOWN=====\n"), "{proof:?}");
     Ok(())
 }
