@@ -1,9 +1,12 @@
 -- The places of the parts on each variable, below a bound and behind it.
-use Rattle.std.proofs.Common.{◌≡◌, ℕ, zero, suc, ◌+◌, ◌<◌, ◌≤◌, Bool, true, false, cond, List, [], ◌∷◌, ◌++◌, length, drop, get_or, set, nat_lt, Option, Some, None, Result, Ok, Err, OnOk, OnErr, IsSomeAnd, refl, sym, ◌∙◌, ap, subst, arith, append-nil, append_assoc}
+use Rattle.std.proofs.Common.{◌≡◌, ℕ, zero, suc, ◌+◌, ◌<◌, ◌≤◌, Bool, true, false, cond, List, [], ◌∷◌, ◌++◌, length, drop, take, get_or, set, nat_lt, Option, Some, None, Result, Ok, Err, OnOk, OnErr, IsSomeAnd, refl, sym, ◌∙◌, ap, subst, inl, inr, arith, append-nil, append_assoc}
 use Rattle.std.specs.List.{filter}
-use Rattle.std.proofs.lemmas.Bool.{false≢true, le-ltb, lt-ltb}
-use Rattle.std.proofs.lemmas.List.{drop_more, length-set}
-use Rattle.dp_base.specs.Lists.{Each}
+use Rattle.std.proofs.lemmas.Bool.{cases_lt, le-ltb, lt-ltb}
+use Rattle.std.proofs.lemmas.List.{get_or_past, length-set}
+use Rattle.std.specs.List.Sorted.{IsPartitionPoint, IsPartitionedBy}
+use Rattle.std.proofs.lemmas.List.Sorted.{IsPartitionedBy-ltb}
+use Rattle.dp_base.specs.Lists.{Climbs, Each}
+use Rattle.dp_base.proofs.Lists.{Each-among, Each-from_among, Each-get_or}
 use Rattle.dp_engine.specs.Placed.{Placed}
 use Rattle.dp_engine.specs.Reaches.{below, joined, own_lists}
 use Rattle.dp_engine.specs.Woken.{IsIndex, entered, is_of, places_on, with_woken}
@@ -11,42 +14,35 @@ use Rattle.dp_engine.proofs.WokenLaws.{entered-length}
 
 -- ---- places below a bound
 
-woken_by : (c : Bool) (k : ℕ) (ks : List ℕ) (ws : List Bool) → with_woken (with_woken ws (cond c (k ∷ []) [])) ks ≡ with_woken ws (cond c (k ∷ ks) ks)
-woken_by true k ks ws = refl
-woken_by false k ks ws = refl
-
--- one place more
-pub woken-below : (b k : ℕ) (ks : List ℕ) (ws : List Bool) → with_woken (with_woken ws (below b (k ∷ []))) (below b ks) ≡ with_woken ws (below b (k ∷ ks))
-woken-below b k ks ws = woken_by (nat_lt k b) k (below b ks) ws
-
 -- places one after the other
 pub with_woken-append : (ws : List Bool) (ks js : List ℕ) → with_woken ws (ks ++ js) ≡ with_woken (with_woken ws ks) js
 with_woken-append ws [] js = refl
 with_woken-append ws (k ∷ ks) js = with_woken-append (set ws k true) ks js
 
--- the next of the places
-pub below-step : (b i k e : ℕ) (places : List ℕ) (ws us all : List Bool) → i < length places → k ≡ get_or places i e → us ≡ with_woken ws (below b (k ∷ [])) → with_woken ws (below b (drop i places)) ≡ all
-    → with_woken us (below b (drop (i + 1) places)) ≡ all
-below-step b i k d places ws us all l e h g =
-    ap (λ xs. with_woken xs (below b (drop (i + 1) places))) h
-    ∙ woken-below b k (drop (i + 1) places) ws
-    ∙ sym (ap (λ js. with_woken ws (below b js)) (drop_more places i d l ∙ ap (λ j. j ∷ drop (i + 1) places) (sym e)))
-    ∙ g
+take_filter : (p : ℕ → Bool) (ks : List ℕ) (i d : ℕ) → i ≤ length ks → ((k : ℕ) → k < i → p (get_or ks k d) ≡ true) → ((k : ℕ) → i ≤ k → k < length ks → p (get_or ks k d) ≡ false) → take i ks ≡ filter p ks
+take_filter p [] zero d h t f = refl
+take_filter p [] (suc i) d h t f = refl
+take_filter p (k ∷ ks) zero d h t f =
+    take_filter p ks zero d (omega arith) (λ j l. absurd (omega arith)) (λ j l m. f (suc j) (omega arith) (omega arith))
+    ∙ sym (ap (λ c. cond c (k ∷ filter p ks) (filter p ks)) (f zero (omega arith) (omega arith)))
+take_filter p (k ∷ ks) (suc i) d h t f =
+    ap (λ js. k ∷ js) (take_filter p ks i d (omega arith) (λ j l. t (suc j) (omega arith)) (λ j l m. f (suc j) (omega arith) (omega arith)))
+    ∙ sym (ap (λ c. cond c (k ∷ filter p ks) (filter p ks)) (t zero (omega arith)))
 
-each_head : (c : Bool) (n k : ℕ) (ks : List ℕ) → c ≡ true → Each (λ j. j < n) (cond c (k ∷ ks) ks) → k < n
-each_head true n k ks e h = h.0
-each_head false n k ks e h = absurd (false≢true e)
+climbs_rise : (ks : List ℕ) → Climbs ks → (i j d : ℕ) → i ≤ j → j < length ks → get_or ks i d ≤ get_or ks j d
+climbs_rise [] c i j d h l = absurd (omega arith)
+climbs_rise (k ∷ ks) c zero zero d h l = omega arith
+climbs_rise (k ∷ ks) c zero (suc j) d h l = let less : k < get_or ks j d = Each-get_or (λ y. k < y) ks j d (omega arith) c.0 in omega arith
+climbs_rise (k ∷ ks) c (suc i) zero d h l = absurd (omega arith)
+climbs_rise (k ∷ ks) c (suc i) (suc j) d h l = climbs_rise ks c.1 i j d (omega arith) (omega arith)
 
-each_tail : (c : Bool) (n k : ℕ) (ks : List ℕ) → Each (λ j. j < n) (cond c (k ∷ ks) ks) → Each (λ j. j < n) ks
-each_tail true n k ks h = h.1
-each_tail false n k ks h = h
+-- of places that ascend those below a bound come first
+pub below-parted : (b : ℕ) (ks : List ℕ) → Climbs ks → IsPartitionedBy (λ k. nat_lt k b) ks
+below-parted b ks c = IsPartitionedBy-ltb (λ k. k) ks b (λ i j d h l. climbs_rise ks c i j d h l)
 
--- a fact of each place below a bound is one of such a place
-pub each-below : (n m b : ℕ) (places : List ℕ) (i k d : ℕ) → m ≡ n → Each (λ j. j < n) (below b places) → i < length places → k ≡ get_or places i d → k < b → k < m
-each-below n m b [] i k d s h l e g = absurd (omega arith)
-each-below n m b (p ∷ ps) zero k d s h l e g =
-    let there : k < n = each_head (nat_lt k b) n k (below b ps) (lt-ltb k b g) (subst (λ j. Each (λ j. j < n) (below b (j ∷ ps))) (sym e) h) in omega arith
-each-below n m b (p ∷ ps) (suc i) k d s h l e g = each-below n m b ps i k d s (each_tail (nat_lt p b) n p (below b ps) h) (omega arith) e g
+-- and they are all before the first that is not below it
+pub below-first : (b : ℕ) (ks : List ℕ) (i : ℕ) → i ≤ length ks → IsPartitionPoint (λ k. nat_lt k b ≡ true) (λ k. nat_lt k b ≡ false) ks i → take i ks ≡ below b ks
+below-first b ks i h p = take_filter (λ k. nat_lt k b) ks i 0 h (λ k l. p.0 k 0 (omega arith) l) (λ k l m. p.1 k 0 l m)
 
 -- a fact of each place of two lists is one of each list's
 pub each-both : (n : ℕ) (ks js : List ℕ) → Each (λ j. j < n) (ks ++ js) → Each (λ j. j < n) ks × Each (λ j. j < n) js
@@ -74,6 +70,29 @@ below-places x k b [] more e = none_below x k b more (omega arith)
 below-places x k b (q ∷ qs) more e =
     here_step (is_of x q.face.scope) b k (places_on x (k + 1) (qs ++ more)) (omega arith)
     ∙ ap (λ ks. one_if (is_of x q.face.scope) k ++ ks) (below-places x (k + 1) b qs more (omega arith))
+
+from_head : (c : Bool) (k : ℕ) (js : List ℕ) → Each (λ j. k + 1 ≤ j) js → Each (λ j. k ≤ j) (one_if c k ++ js)
+from_head true k js h = (omega arith, Each-from_among (λ j. k ≤ j) js (λ j m. let l : k + 1 ≤ j = Each-among (λ i. k + 1 ≤ i) js h j m in omega arith))
+from_head false k js h = Each-from_among (λ j. k ≤ j) js (λ j m. let l : k + 1 ≤ j = Each-among (λ i. k + 1 ≤ i) js h j m in omega arith)
+
+places_on-from : (x k : ℕ) (parts : List Placed) → Each (λ j. k ≤ j) (places_on x k parts)
+places_on-from x k [] = tt
+places_on-from x k (q ∷ qs) = from_head (is_of x q.face.scope) k (places_on x (k + 1) qs) (places_on-from x (k + 1) qs)
+
+climb_head : (c : Bool) (k : ℕ) (js : List ℕ) → Each (λ j. k + 1 ≤ j) js → Climbs js → Climbs (one_if c k ++ js)
+climb_head true k js h c = (Each-from_among (λ j. k < j) js (λ j m. let l : k + 1 ≤ j = Each-among (λ i. k + 1 ≤ i) js h j m in omega arith), c)
+climb_head false k js h c = c
+
+places_on-climb : (x k : ℕ) (parts : List Placed) → Climbs (places_on x k parts)
+places_on-climb x k [] = tt
+places_on-climb x k (q ∷ qs) = climb_head (is_of x q.face.scope) k (places_on x (k + 1) qs) (places_on-from x (k + 1) qs) (places_on-climb x (k + 1) qs)
+
+-- the places in an index ascend
+pub index-climbs : (n : ℕ) (parts : List Placed) (lists : List (List ℕ)) → IsIndex n parts lists → (x : ℕ) → Climbs (get_or lists x [])
+index-climbs n parts lists i x = elim (cases_lt x n) [
+  | inl l ↦ subst Climbs (sym (i.each x l)) (places_on-climb x 0 parts)
+  | inr l ↦ let c = i.count in subst Climbs (sym (get_or_past lists x [] (omega arith))) tt
+]
 
 -- ---- joined lists
 

@@ -1,9 +1,9 @@
 // The parts on each variable, as an engine reaches them.
 
 ghost use Rattle.std.specs.Prelude.{◌≡◌, ℕ, ◌<◌, List, [], Some, length, get_or, IsSomeAnd, OnErr, OnOk};
-ghost use Rattle.dp_base.specs.Lists.{Each};
+ghost use Rattle.dp_base.specs.Lists.{Climbs, Each};
 ghost use Rattle.dp_rule_clause.specs.Nogoods.{scope_of};
-ghost use Rattle.dp_engine.specs.Reaches.{joined, own_lists};
+ghost use Rattle.dp_engine.specs.Reaches.{below, joined, own_lists};
 ghost use Rattle.dp_engine.specs.Woken.{entered, with_woken};
 
 use crate::Nogood;
@@ -23,19 +23,20 @@ pub struct Reach<'i> {
 }
 
 impl<'i> Model for Reach<'i> {
-    ghost use Rattle.std.specs.Prelude.{◌≡◌, ℕ, List, Some, length};
-    ghost use Rattle.dp_engine.specs.Reaches.{joined, own_lists};
+    ghost use Rattle.std.specs.Prelude.{ℕ, List};
+    ghost use Rattle.dp_engine.specs.Reaches.{AreOrdered, joined, own_lists};
 
     ghost Value = { List (List ℕ) };
 
     ghost view = { λ r. joined r.bound r.index.now (own_lists r.own) };
 
-    ghost invariant = { λ r. (lists : List (List ℕ)) → r.own ≡ Some lists → length lists ≡ length r.index.now };
+    ghost invariant = { λ r. AreOrdered r.index.now r.own };
 }
 
 impl<'i> Reach<'i> {
     /// The places of the index below the bound.
     pub fn new(index: &'i Occurrences, bound: usize) -> Reach<'i>
+        requires { (x : ℕ) → Climbs (get_or index.now x []) }
         ensures { result ≡ joined bound index.now [] }
     {
         Reach {
@@ -51,7 +52,7 @@ impl<'i> Reach<'i> {
         requires places { Each (λ k. k < length woken.old) (get_or self.now var []) }
         ensures { woken.new ≡ with_woken woken.old (get_or self.now var []) }
     {
-        woken.wake_below(self.index.on(var), self.bound);
+        woken.wake_each(places_below(self.index.on(var), self.bound));
         wake_own(&self.own, var, woken);
     }
 
@@ -64,6 +65,15 @@ impl<'i> Reach<'i> {
         make_own(alloc, &mut self.own, self.index.len())?;
         enter_own(&mut self.own, nogood, place)
     }
+}
+
+/// Of places that ascend, those below the bound.
+fn places_below(places: &[usize], bound: usize) -> &[usize]
+    requires { Climbs places.now }
+    ensures { result.now ≡ below bound places.now }
+{
+    let count = places.partition_point(|place| *place < bound);
+    &places[..count]
 }
 
 /// Wakes the parts that are listed for the variable, if there are lists.

@@ -2,7 +2,6 @@
 
 ghost use Rattle.std.specs.Prelude.{◌≡◌, ℕ, ◌*◌, ◌<◌, ◌≤◌, Bool, true, false, List, [], ◌∷◌, ◌++◌, length, take, get_or, slice_set, IfOk, MatchOption, OnErr, OnOk};
 ghost use Rattle.dp_base.specs.Lists.{Each};
-ghost use Rattle.dp_engine.specs.Reaches.{below};
 ghost use Rattle.dp_engine.specs.Woken.{AreMarked, AreResting, IsFirstWoken, IsGrown, with_woken};
 
 use dp_domain::Memory;
@@ -88,16 +87,6 @@ impl Woken {
         self.lowest = self.lowest.min(place);
     }
 
-    /// Wakes the part at the place, where it is below the bound.
-    fn wake_if_below(&mut self, place: usize, bound: usize)
-        requires { place < bound → place < length self.old }
-        ensures { self.new ≡ with_woken self.old (below bound (place ∷ [])) }
-    {
-        if place < bound {
-            self.wake(place);
-        }
-    }
-
     /// Puts a part to rest.
     pub fn rest(&mut self, place: usize)
         requires { place < length self.old }
@@ -113,16 +102,6 @@ impl Woken {
     {
         for place in places {
             self.wake(*place);
-        }
-    }
-
-    /// Wakes the parts at those of these places that are below the bound.
-    pub fn wake_below(&mut self, places: &[usize], bound: usize)
-        requires { Each (λ k. k < length self.old) (below bound places.now) }
-        ensures { self.new ≡ with_woken self.old (below bound places.now) }
-    {
-        for place in places {
-            self.wake_if_below(*place, bound);
         }
     }
 

@@ -3,8 +3,12 @@ use Rattle.dp_parts.specs.Problems.{posed}
 use Rattle.dp_engine.specs.Indexes.{Indexed}
 use Rattle.dp_engine.specs.Placed.{turn_order}
 use Rattle.dp_engine.specs.Woken.{IsIndex}
+use Rattle.dp_engine.proofs.ReachLaws.{index-climbs}
 use Rattle.dp_engine.proofs.SeenLaws.{first-index, listed-same}
 use Rattle.dp_engine.proofs.index.Index.before.Goals as goal
+
+pub new-requires : goal.new-requires
+new-requires c = λ x. index-climbs (length c.self.inside.problem.now.initial) (turn_order (posed c.self.inside.problem.now) c.self.inside.nogoods.now) c.self.inside.occurrences c.self.invariant.index x
 
 pub returns-clause-index : goal.returns-clause-index
 returns-clause-index c =
