@@ -52,7 +52,13 @@ const BOUND_STEPS: &[Step] = &[
 
 /// A name, a model, a scaffold, the place of a nogood, and its justification if there is one.
 const ROWS: &[(&str, &str, &str, usize, Option<Justified>)] = &[
-    ("two inequalities", NONE, "c UNSAT\n", 0, Some((NONE_STEPS, &[]))),
+    (
+        "two inequalities",
+        NONE,
+        "c UNSAT\n",
+        0,
+        Some((NONE_STEPS, &[])),
+    ),
     ("what does not follow", DIFFERENT, "c UNSAT\n", 0, None),
     (
         "atoms that no value meets",
@@ -61,7 +67,13 @@ const ROWS: &[(&str, &str, &str, usize, Option<Justified>)] = &[
         0,
         Some((&[], &[])),
     ),
-    ("nogoods that are used", BOUND, BOUND_TEXT, 3, Some((BOUND_STEPS, &[1, 2]))),
+    (
+        "nogoods that are used",
+        BOUND,
+        BOUND_TEXT,
+        3,
+        Some((BOUND_STEPS, &[1, 2])),
+    ),
     ("what two nogoods leave open", BOUND, BOUND_TEXT, 4, None),
 ];
 
@@ -92,7 +104,11 @@ fn justified_of(
 }
 
 fn are_atoms(atoms: &[Atom], used: &[Used]) -> bool {
-    atoms.len() == used.len() && atoms.iter().zip(used).all(|(atom, used)| is_atom(atom, used))
+    atoms.len() == used.len()
+        && atoms
+            .iter()
+            .zip(used)
+            .all(|(atom, used)| is_atom(atom, used))
 }
 
 fn is_step(step: &Kept, wanted: &Step) -> bool {
@@ -110,7 +126,10 @@ fn is_piece(piece: &Option<Piece>, wanted: &Option<Justified>) -> bool {
         (Some(piece), Some((steps, uses))) => {
             let kept = piece.steps.as_slice();
             kept.len() == steps.len()
-                && kept.iter().zip(*steps).all(|(step, wanted)| is_step(step, wanted))
+                && kept
+                    .iter()
+                    .zip(*steps)
+                    .all(|(step, wanted)| is_step(step, wanted))
                 && piece.uses.as_slice() == *uses
         }
         (None, None) => true,

@@ -4,7 +4,7 @@ ghost use Rattle.dp_scaffold.specs.Scaffolds.{IsScaffoldOf};
 use crate::models::{LEAST, NONE, NONE_LOG, problem_of};
 use dp_base::Memory;
 use dp_parts::Problem;
-use dp_process::{Processed, ProcessRefusal, process};
+use dp_process::{ProcessRefusal, Processed, process};
 use dp_scaffold::{Scaffold, ScaffoldAnswer, read_scaffold};
 use std::alloc::Global;
 use std::test::Fail;
@@ -54,7 +54,12 @@ const SEVEN_LOG: &str = "a 1 [cost >= 7]\ni 1 -1 0 c:1 l:linear\nn 2 -1 0 1\nc 1
 const ROWS: &[(&str, &str, &str, Wanted)] = &[
     ("two inequalities", NONE, UNSAT, Log(NONE_LOG, 0, 8)),
     ("left out", CLAUSES, CLAUSE_TEXT, Log(CLAUSE_LOG, 1, 6)),
-    ("one that does not follow", OPEN, CLAUSE_TEXT, NotFollowing(1, 4, 2)),
+    (
+        "one that does not follow",
+        OPEN,
+        CLAUSE_TEXT,
+        NotFollowing(1, 4, 2),
+    ),
     (
         "the last of two",
         FREE,
@@ -62,7 +67,12 @@ const ROWS: &[(&str, &str, &str, Wanted)] = &[
         NotFollowing(1, 3, 2),
     ),
     ("the conclusion's own", FREE, UNSAT, NotFollowing(0, 1, 0)),
-    ("a bound", LEAST, "a 1 [cost >= 7]\nc 1\n", Log(SEVEN_LOG, 0, 2)),
+    (
+        "a bound",
+        LEAST,
+        "a 1 [cost >= 7]\nc 1\n",
+        Log(SEVEN_LOG, 0, 2),
+    ),
     (
         "an initial bound",
         LEAST,

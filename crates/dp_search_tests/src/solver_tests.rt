@@ -4,7 +4,6 @@ use crate::models::{DIFFERENT, LEAST, MOST, NONE, Used, atom_of, is_atom, proble
 use dp_base::Memory;
 use dp_desk::{MemoryDesk, Out};
 use dp_domain::Op;
-use dp_parts::{Goal, Problem};
 use dp_solver::{Outcome, SolveFault, solve, solve_cut};
 use std::alloc::Global;
 use std::test::Fail;
@@ -51,11 +50,29 @@ c UNSAT
 
 /// A name, a model, the most nogoods, the outcome, and its scaffold.
 const ROWS: &[(&str, &str, u64, Wanted, &str)] = &[
-    ("a solution", ENOUGH, 10, Wanted::Solution(&[0, 1, 2, 3]), ""),
+    (
+        "a solution",
+        ENOUGH,
+        10,
+        Wanted::Solution(&[0, 1, 2, 3]),
+        "",
+    ),
     ("propagation refutes", NONE, 10, Wanted::Unsat, UNSAT),
     ("no value", EMPTY, 10, Wanted::Unsat, UNSAT),
-    ("nogoods refute", DIFFERENT, 10, Wanted::Unsat, DIFFERENT_TEXT),
-    ("the most nogoods", DIFFERENT, 1, Wanted::Unknown(None), ONE_NOGOOD),
+    (
+        "nogoods refute",
+        DIFFERENT,
+        10,
+        Wanted::Unsat,
+        DIFFERENT_TEXT,
+    ),
+    (
+        "the most nogoods",
+        DIFFERENT,
+        1,
+        Wanted::Unknown(None),
+        ONE_NOGOOD,
+    ),
     (
         "the least value",
         BETWEEN,
@@ -124,6 +141,87 @@ fn outcomes_and_their_scaffolds(rt: HostRuntime) -> Result<(), Fail> {
         let outcome = solved(rt.alloc(), *model, *conflicts, &mut desk)?;
         assert!(rt; is_outcome(&outcome, *wanted), "{name}: {outcome:?}");
         assert_eq!(rt; desk.written(Out::Answer), Some(text.as_bytes()), "{name}");
+    }
+    Ok(())
+}
+
+/// Solves the problem of a model whose domains are cut by an atom.
+fn solved_cut(
+    alloc: Global,
+    model: &str,
+    used: Used,
+    desk: &mut MemoryDesk,
+) -> Result<Outcome, SolveFault> {
+    let problem = problem_of(alloc, model)?;
+    let atom = atom_of(used)?;
+    if atom.var().0 as usize >= problem.initial().len() {
+        return Err(SolveFault::Memory);
+    }
+    let goal = problem.goal();
+    solve_cut(alloc, &problem, &[atom], goal, 10, desk, Out::Answer)
+}
+
+/// A name, a model, an atom that cuts its domains, the outcome, and its scaffold.
+const CUT: &[(&str, &str, Used, Wanted, &str)] = &[
+    (
+        "one Boolean",
+        "var bool: p;\nsolve satisfy;\n",
+        (0, Op::Ge, 1),
+        Wanted::Solution(&[1]),
+        "",
+    ),
+    (
+        "a solution",
+        "var bool: w;\nvar bool: x;\nsolve satisfy;\n",
+        (0, Op::Ge, 1),
+        Wanted::Solution(&[1, 0]),
+        "",
+    ),
+    (
+        "the least value beneath a bound",
+        BETWEEN,
+        (0, Op::Ge, 2),
+        Wanted::Optimal(&[2, 0, 0, 5], (3, Op::Ge, 5)),
+        "a 1 [z >= 5]\nc 1\n",
+    ),
+    (
+        "no value is left",
+        BETWEEN,
+        (0, Op::Ge, 10),
+        Wanted::Unsat,
+        UNSAT,
+    ),
+];
+
+#[test]
+fn atoms_cut_the_domains(rt: HostRuntime) -> Result<(), Fail> {
+    for (name, model, used, wanted, text) in CUT {
+        let mut desk = desk_of(rt.alloc(), 0)?;
+        let outcome = solved_cut(rt.alloc(), *model, *used, &mut desk)?;
+        assert!(rt; is_outcome(&outcome, *wanted), "{name}: {outcome:?}");
+        assert_eq!(rt; desk.written(Out::Answer), Some(text.as_bytes()), "{name}");
+    }
+    Ok(())
+}
+
+/// A write that fails, and the front of the scaffold that stands then.
+const FAULTS: &[(u64, &str)] = &[
+    (1, ""),
+    (3, "a 1 [w >= 1]\na"),
+    (7, "a 1 [w >= 1]\na 2 [x >= 2]\nn 1 -1 -2\n"),
+];
+
+#[test]
+fn a_failed_write_ends_the_search(rt: HostRuntime) -> Result<(), Fail> {
+    for (failing, front) in FAULTS {
+        let mut desk = desk_of(rt.alloc(), *failing)?;
+        let fault = solved(rt.alloc(), DIFFERENT, 10, &mut desk).err();
+        assert_eq!(rt; fault, Some(SolveFault::WriteFault), "{failing}");
+        assert_eq!(rt;
+            desk.written(Out::Answer),
+            Some(front.as_bytes()),
+            "{failing}"
+        );
     }
     Ok(())
 }
