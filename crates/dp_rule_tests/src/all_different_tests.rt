@@ -1,125 +1,271 @@
-use dp_domain::Dom;
+use crate::rows::Answer::{Clashes, Gives, Quiet, Test, Turn};
+use crate::rows::Position::{Number, Var};
+use crate::rows::{Answer, Place, Position, answers, terms_of};
+use dp_domain::{Op, Test as _};
 use dp_rule_alldiff::*;
-use dp_trials::{LARGEST, clash_at, state_of};
+use dp_trials::LARGEST;
 use std::alloc::Global;
 use std::test::Fail;
 
-pub(crate) const X: Term = Term::Var(VarId(0));
+const X: Position = Var(0);
 
-pub(crate) const Y: Term = Term::Var(VarId(1));
+const Y: Position = Var(1);
 
-pub(crate) const Z: Term = Term::Var(VarId(2));
+const Z: Position = Var(2);
 
-pub(crate) fn all_different(alloc: Global, terms: &[Term]) -> Result<AllDiff, Memory> {
-    AllDiff::new(alloc, terms.to_vec(alloc)?)
-}
+const THREE: &[Position] = &[X, Y, Z];
 
-// Whether three variables that differ clash.
-fn three(
-    alloc: Global,
-    x: (i64, i64),
-    y: (i64, i64),
-    z: (i64, i64),
-) -> Result<Option<bool>, Memory> {
-    clash_at(
-        &all_different(alloc, &[X, Y, Z])?,
-        &state_of(alloc, &[x, y, z])?,
-    )
-}
+const LEAST: Position = Number(i64::MIN);
 
-#[test]
-fn three_variables(rt: HostRuntime) -> Result<(), Fail> {
-    for (x, y, z, wanted) in [
-        ((0, 1), (0, 1), (0, 1), true),
-        ((0, 1), (0, 1), (0, 2), false),
-        ((0, 1), (0, 1), (1, 2), false),
-        ((0, 5), (2, 2), (2, 2), true),
-        ((2, 3), (3, 3), (2, 2), true),
-        ((0, 1), (5, 6), (0, 1), false),
-        ((0, 1), (5, 6), (2, 1), true),
+const MOST: Position = Number(i64::MAX);
+
+const WIDE: (i64, i64) = (-LARGEST, LARGEST);
+
+/// x is 0, 1 or 2, y is 1 or 2, and z is 2.
+const LOW: Place = (&[(0, 2), (1, 2), (2, 2)], &[], &[]);
+
+/// x is 0 to 9, y is 3 or 4, and z is 4, 5 or 6.
+const HIGH: Place = (&[(0, 9), (3, 4), (4, 6)], &[], &[]);
+
+/// The terms, a place, and whether they clash there.
+const TESTS: &[(&[Position], Place, Answer)] = &[
+    // three variables
+    (THREE, (&[(0, 1), (0, 1), (0, 1)], &[], &[]), Test(true)),
+    (THREE, (&[(0, 1), (0, 1), (0, 2)], &[], &[]), Test(false)),
+    (THREE, (&[(0, 1), (0, 1), (1, 2)], &[], &[]), Test(false)),
+    (THREE, (&[(0, 5), (2, 2), (2, 2)], &[], &[]), Test(true)),
+    (THREE, (&[(2, 3), (3, 3), (2, 2)], &[], &[]), Test(true)),
+    (THREE, (&[(0, 1), (5, 6), (0, 1)], &[], &[]), Test(false)),
+    (THREE, (&[(0, 1), (5, 6), (2, 1)], &[], &[]), Test(true)),
+    (
+        THREE,
         (
-            (-LARGEST, 1 - LARGEST),
-            (LARGEST, LARGEST),
-            (LARGEST, LARGEST),
-            true,
+            &[
+                (-LARGEST, 1 - LARGEST),
+                (LARGEST, LARGEST),
+                (LARGEST, LARGEST),
+            ],
+            &[],
+            &[],
         ),
-    ] {
-        assert_eq!(rt;
-            three(rt.alloc(), x, y, z)?,
-            Some(wanted),
-            "{x:?} {y:?} {z:?}"
-        );
-    }
-    Ok(())
-}
+        Test(true),
+    ),
+    // the numbers of an interval are counted, also those that are not there
+    (
+        THREE,
+        (
+            &[(0, 2), (0, 2), (0, 2)],
+            &[(0, Op::Ne, 1), (1, Op::Ne, 1), (2, Op::Ne, 1)],
+            &[],
+        ),
+        Test(false),
+    ),
+    // two positions
+    (&[Number(3), Number(3)], LOW, Test(true)),
+    (&[Number(3), Number(4)], LOW, Test(false)),
+    (&[Z, Z], LOW, Test(true)),
+    (&[Y, Y], LOW, Test(false)),
+    (&[Z, Number(2)], LOW, Test(true)),
+    (&[X, Y], LOW, Test(false)),
+    // other numbers of positions
+    (&[], LOW, Test(false)),
+    (&[Z], LOW, Test(false)),
+    (&[Y, Y, Y], LOW, Test(true)),
+    (&[X, Y, Z, X], LOW, Test(true)),
+    // the ends of 64 bits
+    (&[LEAST, MOST, X], LOW, Test(false)),
+    (&[LEAST, MOST, LEAST], LOW, Test(true)),
+    (&[MOST, LEAST, MOST], LOW, Test(true)),
+];
 
-// Whether three variables that differ clash where each is 0 or 2.
-fn holes(alloc: Global) -> Result<Option<bool>, Memory> {
-    let mut sets = Vec::new(alloc);
-    sets.push(Dom::of(alloc, &[(0, 0), (2, 2)])?)?;
-    sets.push(Dom::of(alloc, &[(0, 0), (2, 2)])?)?;
-    sets.push(Dom::of(alloc, &[(0, 0), (2, 2)])?)?;
-    clash_at(&all_different(alloc, &[X, Y, Z])?, &State::new(sets))
+/// y is 1 or 2, and z too.
+const MIDDLE: &[(u32, Op, i64)] = &[
+    (1, Op::Ge, 1),
+    (1, Op::Le, 2),
+    (2, Op::Ge, 1),
+    (2, Op::Le, 2),
+];
+
+/// The same, and x is at least 1.
+const RAISED: &[(u32, Op, i64)] = &[
+    (0, Op::Ge, 1),
+    (1, Op::Ge, 1),
+    (1, Op::Le, 2),
+    (2, Op::Ge, 1),
+    (2, Op::Le, 2),
+];
+
+/// The terms, a place, their turn there, and why.
+const EXPLAINED: &[(&[Position], Place, Answer)] = &[
+    // one variable twice
+    (
+        &[X, X],
+        (&[(0, 2), (0, 9), (0, 9)], &[], &[]),
+        Gives((0, Op::Ge, 1), &[]),
+    ),
+    (
+        &[X, X],
+        (&[(0, 2), (0, 9), (0, 9)], &[], &[(0, Op::Ge, 1)]),
+        Gives((0, Op::Ge, 2), &[(0, Op::Ge, 1)]),
+    ),
+    (
+        &[X, X],
+        (&[(0, 2), (0, 9), (0, 9)], &[], &[(0, Op::Ge, 2)]),
+        Clashes(&[(0, Op::Ge, 2)]),
+    ),
+    // a number that is taken
+    (
+        &[Y, X],
+        (
+            &[(0, 4), (0, 9), (0, 9)],
+            &[],
+            &[(1, Op::Ge, 2), (1, Op::Le, 2)],
+        ),
+        Gives((0, Op::Ne, 2), &[(1, Op::Ge, 2), (1, Op::Le, 2)]),
+    ),
+    (
+        &[Y, X],
+        (
+            &[(0, 4), (0, 9), (0, 9)],
+            &[],
+            &[(1, Op::Ge, 4), (1, Op::Le, 4)],
+        ),
+        Gives((0, Op::Le, 3), &[(1, Op::Ge, 4), (1, Op::Le, 4)]),
+    ),
+    (
+        &[Y, X],
+        (
+            &[(0, 4), (0, 9), (0, 9)],
+            &[],
+            &[(1, Op::Ge, 0), (1, Op::Le, 0)],
+        ),
+        Gives((0, Op::Ge, 1), &[(1, Op::Le, 0)]),
+    ),
+    (&[Y, X], (&[(0, 4), (0, 9), (0, 9)], &[], &[]), Quiet),
+    // two numbers that are taken
+    (
+        THREE,
+        (&[(0, 4), (0, 4), (0, 4)], &[], MIDDLE),
+        Gives((0, Op::Ne, 1), MIDDLE),
+    ),
+    (
+        THREE,
+        (&[(0, 4), (0, 4), (0, 4)], &[], RAISED),
+        Gives((0, Op::Ge, 3), RAISED),
+    ),
+    // one variable twice in a wide domain
+    (
+        &[X, X, Y],
+        (&[WIDE, WIDE], &[], &[]),
+        Turn((0, Op::Ge, 1 - LARGEST)),
+    ),
+];
+
+/// The terms, a place, and their turn there by a tight interval.
+const TIGHT: &[(&[Position], Place, Answer)] = &[
+    (
+        THREE,
+        (&[(1, 2), (1, 2), (1, 3)], &[], &[]),
+        Turn((2, Op::Ge, 3)),
+    ),
+    (
+        THREE,
+        (&[(1, 2), (1, 2), (0, 2)], &[], &[]),
+        Turn((2, Op::Le, 0)),
+    ),
+    (THREE, (&[(1, 2), (1, 2), (5, 9)], &[], &[]), Quiet),
+    (THREE, (&[(0, 9), (0, 9), (0, 9)], &[], &[]), Quiet),
+    (
+        THREE,
+        (&[(0, 9), (0, 0), (1, 1)], &[], &[]),
+        Turn((0, Op::Ge, 2)),
+    ),
+    (
+        THREE,
+        (&[(0, 9), (9, 9), (0, 0)], &[], &[]),
+        Turn((0, Op::Ge, 1)),
+    ),
+    (
+        THREE,
+        (&[(1, 1), (1, 2), (0, 9)], &[], &[]),
+        Turn((1, Op::Ge, 2)),
+    ),
+    (
+        THREE,
+        (&[(1, 5), (3, 4), (3, 4)], &[], &[]),
+        Turn((0, Op::Ne, 3)),
+    ),
+    (
+        THREE,
+        (&[(0, 9), (9, 9), (5, 5)], &[], &[]),
+        Turn((0, Op::Le, 8)),
+    ),
+    (
+        THREE,
+        (&[(0, 9), (7, 7), (5, 5)], &[], &[]),
+        Turn((0, Op::Ne, 5)),
+    ),
+    (
+        THREE,
+        (&[WIDE, (LARGEST, LARGEST), (0, 0)], &[], &[]),
+        Turn((0, Op::Le, LARGEST - 1)),
+    ),
+    (
+        THREE,
+        (&[WIDE, (0, 0), (5, 5)], &[], &[]),
+        Turn((0, Op::Ne, 0)),
+    ),
+    // values that are not there
+    (
+        THREE,
+        (
+            &[(0, 9), (0, 0), (5, 5)],
+            &[],
+            &[(0, Op::Ne, 1), (0, Op::Ne, 2)],
+        ),
+        Turn((0, Op::Ge, 3)),
+    ),
+    (
+        THREE,
+        (
+            &[(0, 9), (9, 9), (5, 5)],
+            &[],
+            &[(0, Op::Ne, 8), (0, Op::Ne, 7)],
+        ),
+        Turn((0, Op::Le, 6)),
+    ),
+    (
+        THREE,
+        (
+            &[(0, 9), (3, 4), (3, 4)],
+            &[],
+            &[(0, Op::Ne, 3), (0, Op::Ne, 5)],
+        ),
+        Turn((0, Op::Ne, 4)),
+    ),
+    // numbers
+    (&[X, Number(0), Number(9)], HIGH, Turn((0, Op::Ge, 1))),
+    (&[X, LEAST, MOST], HIGH, Quiet),
+    (&[X, Y, Number(3)], HIGH, Turn((0, Op::Ne, 3))),
+    (&[Y, Z, Number(3)], HIGH, Turn((1, Op::Ge, 4))),
+    (&[Z, Number(5), Number(6)], HIGH, Turn((2, Op::Le, 4))),
+    (&[X, X, Number(0)], HIGH, Turn((0, Op::Ge, 2))),
+];
+
+fn all_different(alloc: Global, terms: &[Position]) -> Result<AllDiff, Memory> {
+    AllDiff::new(alloc, terms_of(alloc, terms)?)
 }
 
 #[test]
-fn the_interval_is_counted(rt: HostRuntime) -> Result<(), Fail> {
-    assert_eq!(rt; holes(rt.alloc())?, Some(false));
-    Ok(())
-}
-
-// Whether these terms clash where x is 0, 1 or 2, y is 1 or 2, and z is 2.
-fn clashes(alloc: Global, terms: &[Term]) -> Result<bool, Memory> {
-    let state = state_of(alloc, &[(0, 2), (1, 2), (2, 2)])?;
-    Ok(clash_at(&all_different(alloc, terms)?, &state)? == Some(true))
-}
-
-#[test]
-fn two_positions(rt: HostRuntime) -> Result<(), Fail> {
-    for (first, second, wanted) in [
-        (Term::Const(3), Term::Const(3), true),
-        (Term::Const(3), Term::Const(4), false),
-        (Z, Z, true),
-        (Y, Y, false),
-        (Z, Term::Const(2), true),
-        (X, Y, false),
-    ] {
-        assert_eq!(rt;
-            clashes(rt.alloc(), &[first, second])?,
-            wanted,
-            "{first:?} {second:?}"
-        );
-    }
-    Ok(())
-}
-
-#[test]
-fn other_numbers_of_positions(rt: HostRuntime) -> Result<(), Fail> {
-    let alloc = rt.alloc();
-    assert!(rt; !clashes(alloc, &[])?, "none");
-    assert!(rt; !clashes(alloc, &[Z])?, "one");
-    assert!(rt; clashes(alloc, &[Y, Y, Y])?, "three of two values");
-    assert!(rt; clashes(alloc, &[X, Y, Z, X])?, "four of three values");
-    Ok(())
-}
-
-#[test]
-fn large_numbers(rt: HostRuntime) -> Result<(), Fail> {
-    let alloc = rt.alloc();
-    let (least, most) = (Term::Const(i64::MIN), Term::Const(i64::MAX));
-    assert!(rt; !clashes(alloc, &[least, most, X])?);
-    assert!(rt; clashes(alloc, &[least, most, least])?);
-    assert!(rt; clashes(alloc, &[most, least, most])?);
-    Ok(())
-}
-
-#[test]
-fn scopes_and_points(rt: HostRuntime) -> Result<(), Fail> {
-    let rule = all_different(rt.alloc(), &[Z, Term::Const(3), X, Z])?;
-    assert_eq!(rt; rule.terms().len(), 4);
-    assert_eq!(rt; rule.scope_len(), 2);
-    for (var, wanted) in [(0, true), (1, false), (2, true), (3, false)] {
-        assert_eq!(rt; rule.is_point(VarId(var), 7), wanted, "{var}");
+fn tests_turns_and_explanations(rt: HostRuntime) -> Result<(), Fail> {
+    for rows in [TESTS, EXPLAINED, TIGHT] {
+        for (terms, place, answer) in rows {
+            let rule = all_different(rt.alloc(), *terms)?;
+            assert!(rt;
+                answers(rt.alloc(), &rule, place, *answer)?,
+                "{terms:?} {place:?} {answer:?}"
+            );
+        }
     }
     Ok(())
 }
@@ -127,7 +273,13 @@ fn scopes_and_points(rt: HostRuntime) -> Result<(), Fail> {
 fn crosses_threads<T: Send + Sync>(_value: &T) {}
 
 #[test]
-fn rules_cross_threads(rt: HostRuntime) -> Result<(), Fail> {
-    crosses_threads(&all_different(rt.alloc(), &[])?);
+fn shapes(rt: HostRuntime) -> Result<(), Fail> {
+    let rule = all_different(rt.alloc(), &[Z, Number(3), X, Z])?;
+    assert_eq!(rt; rule.terms().len(), 4);
+    assert_eq!(rt; rule.scope_len(), 2);
+    for (var, wanted) in [(0, true), (1, false), (2, true), (3, false)] {
+        assert_eq!(rt; rule.is_point(VarId(var), 7), wanted, "{var}");
+    }
+    crosses_threads(&rule);
     Ok(())
 }

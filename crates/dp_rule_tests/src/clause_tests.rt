@@ -1,112 +1,220 @@
-use dp_domain::Op;
+use crate::rows::Answer::{Clashes, Gives, Quiet, Test};
+use crate::rows::{Answer, Place, Used, answers, atoms_of};
+use dp_base::Memory;
+use dp_domain::{Op, Test as _};
 use dp_rule_clause::*;
-use dp_trials::{clash_at, is_counted, range, state_of};
+use dp_trials::{LARGEST, is_counted};
 use std::alloc::Global;
 use std::test::Fail;
 
-pub fn atom(var: u32, op: Op, value: i64) -> Atom {
-    match Atom::new(VarId(var), op, value) {
-        Some(atom) => atom,
-        None => Atom::default(),
+fn nogood(alloc: Global, rows: &[Used]) -> Result<Nogood, Memory> {
+    Nogood::new(alloc, atoms_of(alloc, rows)?.as_slice())
+}
+
+/// Variable 0 is 0 or 1, 1 is 5 to 9, and 2 is 1 to 4.
+const NEAR: Place = (&[(0, 1), (5, 9), (1, 4)], &[], &[]);
+
+/// A nogood, a place, and whether it clashes there.
+const TESTS: &[(&[Used], Place, Answer)] = &[
+    // no atom; entailed; refuted; open; an entailed hole; one of five values
+    (&[], NEAR, Test(true)),
+    (&[(1, Op::Ge, 5)], NEAR, Test(true)),
+    (&[(1, Op::Ge, 10)], NEAR, Test(false)),
+    (&[(1, Op::Ge, 6)], NEAR, Test(false)),
+    (&[(1, Op::Ne, 4)], NEAR, Test(true)),
+    (&[(1, Op::Eq, 5)], NEAR, Test(false)),
+    // two on one variable; one of two; all but the last; repeats
+    (&[(1, Op::Ge, 5), (1, Op::Le, 9)], NEAR, Test(true)),
+    (&[(1, Op::Ge, 5), (1, Op::Le, 8)], NEAR, Test(false)),
+    (
+        &[(1, Op::Ge, 5), (2, Op::Ge, 1), (0, Op::Ge, 1)],
+        NEAR,
+        Test(false),
+    ),
+    (
+        &[(1, Op::Ge, 5), (1, Op::Ge, 5), (0, Op::Ge, 0)],
+        NEAR,
+        Test(true),
+    ),
+    // a dead state
+    (
+        &[(1, Op::Ge, 10)],
+        (&[(0, 1), (5, 9), (3, 2)], &[], &[]),
+        Test(true),
+    ),
+];
+
+const WIDE: (i64, i64) = (-LARGEST, LARGEST);
+
+const ALL: &[(i64, i64)] = &[WIDE, WIDE, WIDE];
+
+const FREE: Place = (ALL, &[], &[]);
+
+/// A nogood, a place, and its turn there by atoms on one variable.
+const ONE: &[(&[Used], Place, Answer)] = &[
+    // one atom of each comparison
+    (&[(0, Op::Ge, 2)], FREE, Gives((0, Op::Le, 1), &[])),
+    (&[(0, Op::Le, 2)], FREE, Gives((0, Op::Ge, 3), &[])),
+    (&[(0, Op::Eq, 2)], FREE, Gives((0, Op::Ne, 2), &[])),
+    (&[(0, Op::Ne, 2)], FREE, Gives((0, Op::Ge, 2), &[])),
+    (
+        &[(0, Op::Eq, -LARGEST)],
+        FREE,
+        Gives((0, Op::Ge, 1 - LARGEST), &[]),
+    ),
+    (
+        &[(0, Op::Eq, LARGEST)],
+        FREE,
+        Gives((0, Op::Le, LARGEST - 1), &[]),
+    ),
+    (&[(0, Op::Eq, LARGEST + 1)], FREE, Quiet),
+    // two atoms: neither bound nor hole; from below; from above
+    (&[(0, Op::Ge, 2), (0, Op::Le, 4)], FREE, Quiet),
+    (
+        &[(0, Op::Ge, 2), (0, Op::Le, 4)],
+        (ALL, &[], &[(0, Op::Ge, 2)]),
+        Gives((0, Op::Ge, 5), &[(0, Op::Ge, 2)]),
+    ),
+    (
+        &[(0, Op::Ge, 2), (0, Op::Le, 4)],
+        (ALL, &[], &[(0, Op::Le, 4)]),
+        Gives((0, Op::Le, 1), &[(0, Op::Le, 4)]),
+    ),
+    // one value that meets two atoms: no `==`; a hole; no value
+    (&[(0, Op::Ge, 3), (0, Op::Le, 3)], FREE, Quiet),
+    (
+        &[(0, Op::Ge, 3), (0, Op::Eq, 3)],
+        FREE,
+        Gives((0, Op::Ne, 3), &[]),
+    ),
+    (&[(0, Op::Ge, 4), (0, Op::Eq, 3)], FREE, Quiet),
+    // a value at the edge: the least, the greatest
+    (
+        &[(0, Op::Eq, 3)],
+        (ALL, &[], &[(0, Op::Ge, 3)]),
+        Gives((0, Op::Ge, 4), &[(0, Op::Ge, 3)]),
+    ),
+    (
+        &[(0, Op::Eq, 3)],
+        (ALL, &[], &[(0, Op::Le, 3)]),
+        Gives((0, Op::Le, 2), &[(0, Op::Le, 3)]),
+    ),
+    // a value within; gone already
+    (
+        &[(0, Op::Eq, 3)],
+        (ALL, &[], &[(0, Op::Ge, 2), (0, Op::Le, 4)]),
+        Gives((0, Op::Ne, 3), &[]),
+    ),
+    (&[(0, Op::Eq, 3)], (ALL, &[], &[(0, Op::Ne, 3)]), Quiet),
+];
+
+/// The same by atoms on more variables.
+const MORE: &[(&[Used], Place, Answer)] = &[
+    // the other atom is entailed
+    (
+        &[(0, Op::Eq, 3), (1, Op::Le, 9)],
+        (ALL, &[], &[(1, Op::Le, 8), (1, Op::Ne, 5)]),
+        Gives((0, Op::Ne, 3), &[(1, Op::Le, 8)]),
+    ),
+    // both are open; one is refuted; the later variable
+    (&[(0, Op::Ge, 5), (1, Op::Ge, 5)], FREE, Quiet),
+    (
+        &[(0, Op::Ge, 5), (1, Op::Ge, 5)],
+        (ALL, &[], &[(0, Op::Le, 4)]),
+        Quiet,
+    ),
+    (
+        &[(0, Op::Ge, 5), (1, Op::Ge, 5)],
+        (ALL, &[], &[(0, Op::Ge, 6)]),
+        Gives((1, Op::Le, 4), &[(0, Op::Ge, 6)]),
+    ),
+    // only what is needed: a bound, holes
+    (
+        &[(0, Op::Ge, 5), (1, Op::Ge, 5)],
+        (
+            ALL,
+            &[],
+            &[
+                (1, Op::Ge, 7),
+                (1, Op::Le, 20),
+                (1, Op::Ne, 9),
+                (0, Op::Ne, 9),
+            ],
+        ),
+        Gives((0, Op::Le, 4), &[(1, Op::Ge, 7)]),
+    ),
+    (
+        &[(0, Op::Ne, 3), (1, Op::Ge, 5), (0, Op::Ne, 8)],
+        (ALL, &[], &[(0, Op::Ne, 3), (0, Op::Ne, 5), (0, Op::Ne, 8)]),
+        Gives((1, Op::Le, 4), &[(0, Op::Ne, 3), (0, Op::Ne, 8)]),
+    ),
+    // two of three atoms on one variable
+    (
+        &[(0, Op::Ge, 5), (1, Op::Eq, 3), (0, Op::Le, 10)],
+        (ALL, &[], &[(0, Op::Ge, 5), (1, Op::Eq, 3)]),
+        Gives(
+            (0, Op::Ge, 11),
+            &[(0, Op::Ge, 5), (1, Op::Ge, 3), (1, Op::Le, 3)],
+        ),
+    ),
+    // a clash, also of no atom
+    (
+        &[(0, Op::Ge, 5), (1, Op::Le, 5)],
+        (ALL, &[], &[(0, Op::Ge, 6), (0, Op::Le, 8), (1, Op::Le, 2)]),
+        Clashes(&[(0, Op::Ge, 6), (1, Op::Le, 2)]),
+    ),
+    (
+        &[],
+        (ALL, &[], &[(0, Op::Ge, 6), (0, Op::Le, 8), (1, Op::Le, 2)]),
+        Clashes(&[]),
+    ),
+];
+
+#[test]
+fn tests_turns_and_explanations(rt: HostRuntime) -> Result<(), Fail> {
+    for rows in [TESTS, ONE, MORE] {
+        for (atoms, place, answer) in rows {
+            let rule = nogood(rt.alloc(), *atoms)?;
+            assert!(rt;
+                answers(rt.alloc(), &rule, place, *answer)?,
+                "{atoms:?} {place:?} {answer:?}"
+            );
+        }
     }
+    Ok(())
 }
 
-pub fn atoms(alloc: Global, rows: &[(u32, Op, i64)]) -> Result<Vec<Atom>, Memory> {
-    let mut atoms = Vec::new(alloc);
-    for (var, op, value) in rows {
-        atoms.push(atom(*var, *op, *value))?;
+const A: Used = (2, Op::Ge, 1);
+
+const B: Used = (0, Op::Ge, 1);
+
+const C: Used = (2, Op::Le, 1);
+
+const D: Used = (2, Op::Ge, -1);
+
+/// The atoms that are given, those that are kept, and how many variables these have; repeats are left out.
+const KEPT: &[(&[Used], &[Used], usize)] = &[
+    (&[A, B, A, B], &[A, B], 2),
+    (&[A, B, C, D], &[A, B, C, D], 2),
+    (&[A, B, A, C, B, D, C], &[A, B, C, D], 2),
+    (&[D, D, D, D, D, D], &[D], 1),
+    (&[], &[], 0),
+];
+
+fn crosses_threads<T: Send + Sync>(_value: &T) {}
+
+#[test]
+fn shapes(rt: HostRuntime) -> Result<(), Fail> {
+    for (given, kept, count) in KEPT {
+        let rule = nogood(rt.alloc(), *given)?;
+        let kept = atoms_of(rt.alloc(), *kept)?;
+        assert!(rt; rule.atoms() == kept.as_slice(), "{given:?}");
+        assert_eq!(rt; rule.scope_len(), *count, "{given:?}");
     }
-    Ok(atoms)
-}
-
-pub fn nogood(alloc: Global, rows: &[(u32, Op, i64)]) -> Result<Nogood, Memory> {
-    Nogood::new(alloc, atoms(alloc, rows)?.as_slice())
-}
-
-// Whether the nogood of these atoms clashes where variable 0 is 0 or 1, 1 is 5 to 9, and 2 is 1 to 4.
-fn excludes(alloc: Global, rows: &[(u32, Op, i64)]) -> Result<Option<bool>, Memory> {
-    let state = state_of(alloc, &[(0, 1), (5, 9), (1, 4)])?;
-    clash_at(&nogood(alloc, rows)?, &state)
-}
-
-#[test]
-fn nogoods_at_a_state(rt: HostRuntime) -> Result<(), Fail> {
-    let alloc = rt.alloc();
-    assert_eq!(rt; excludes(alloc, &[])?, Some(true), "no atom");
-    assert_eq!(rt; excludes(alloc, &[(1, Op::Ge, 5)])?, Some(true), "entailed");
-    assert_eq!(rt;
-        excludes(alloc, &[(1, Op::Ge, 10)])?,
-        Some(false),
-        "refuted"
-    );
-    assert_eq!(rt; excludes(alloc, &[(1, Op::Ge, 6)])?, Some(false), "open");
-    assert_eq!(rt;
-        excludes(alloc, &[(1, Op::Ne, 4)])?,
-        Some(true),
-        "entailed hole"
-    );
-    assert_eq!(rt;
-        excludes(alloc, &[(1, Op::Eq, 5)])?,
-        Some(false),
-        "one of five values"
-    );
-    Ok(())
-}
-
-#[test]
-fn nogoods_of_several_atoms(rt: HostRuntime) -> Result<(), Fail> {
-    let alloc = rt.alloc();
-    let both = [(1, Op::Ge, 5), (1, Op::Le, 9)];
-    assert_eq!(rt; excludes(alloc, &both)?, Some(true), "two on one variable");
-    let one = [(1, Op::Ge, 5), (1, Op::Le, 8)];
-    assert_eq!(rt;
-        excludes(alloc, &one)?,
-        Some(false),
-        "one of two on one variable"
-    );
-    let rest = [(1, Op::Ge, 5), (2, Op::Ge, 1), (0, Op::Ge, 1)];
-    assert_eq!(rt; excludes(alloc, &rest)?, Some(false), "all but the last");
-    let again = [(1, Op::Ge, 5), (1, Op::Ge, 5), (0, Op::Ge, 0)];
-    assert_eq!(rt; excludes(alloc, &again)?, Some(true), "repeats");
-    Ok(())
-}
-
-#[test]
-fn a_dead_state(rt: HostRuntime) -> Result<(), Fail> {
-    let alloc = rt.alloc();
-    let state = state_of(alloc, &[(0, 1), (5, 9), (3, 2)])?;
-    let rule = nogood(alloc, &[(1, Op::Ge, 10)])?;
-    assert_eq!(rt; clash_at(&rule, &state)?, Some(true));
-    let rule = Within::new(None, VarId(1), range(alloc, (5, 9))?)?;
-    assert_eq!(rt; clash_at(&rule, &state)?, Some(true));
-    Ok(())
-}
-
-// Whether the nogood of the first atoms has the second ones.
-fn keeps(alloc: Global, given: &[(u32, Op, i64)], kept: &[(u32, Op, i64)]) -> Result<bool, Memory> {
-    Ok(nogood(alloc, given)?.atoms() == atoms(alloc, kept)?.as_slice())
-}
-
-#[test]
-fn repeats_are_left_out(rt: HostRuntime) -> Result<(), Fail> {
-    let (a, b, c, d) = (
-        (2, Op::Ge, 1),
-        (0, Op::Ge, 1),
-        (2, Op::Le, 1),
-        (2, Op::Ge, -1),
-    );
-    assert!(rt; keeps(rt.alloc(), &[a, b, a, b], &[a, b])?, "few");
-    assert!(rt; keeps(rt.alloc(), &[a, b, c, d], &[a, b, c, d])?, "none");
-    assert!(rt;
-        keeps(rt.alloc(), &[a, b, a, c, b, d, c], &[a, b, c, d])?,
-        "many"
-    );
-    assert!(rt; keeps(rt.alloc(), &[d, d, d, d, d, d], &[d])?, "all");
-    Ok(())
-}
-
-#[test]
-fn points_of_a_nogood(rt: HostRuntime) -> Result<(), Fail> {
+    let rows = [A, B, (1, Op::Le, 7), (2, Op::Ge, 2), (0, Op::Ne, 7), A];
+    assert!(rt; is_counted(&nogood(rt.alloc(), &rows)?, 3));
+    let (few, _) = rows.split_at(4);
+    assert!(rt; is_counted(&nogood(rt.alloc(), few)?, 3));
     let rule = nogood(
         rt.alloc(),
         &[(1, Op::Eq, 5), (2, Op::Ge, 1), (0, Op::Ne, 1)],
@@ -120,108 +228,6 @@ fn points_of_a_nogood(rt: HostRuntime) -> Result<(), Fail> {
     ] {
         assert_eq!(rt; rule.is_point(VarId(var), value), wanted, "{var} {value}");
     }
-    Ok(())
-}
-
-// Whether 2, 7 or 8 under [b >= 1] clashes for this variable.
-fn within(alloc: Global, b: (i64, i64), x: (i64, i64)) -> Result<Option<bool>, Fail> {
-    let set = Dom::of(alloc, &[(7, 8), (2, 2)])?;
-    let rule = Within::new(Some(atom(0, Op::Ge, 1)), VarId(1), set)?;
-    Ok(clash_at(&rule, &state_of(alloc, &[b, x, (1, 4)])?)?)
-}
-
-#[test]
-fn values_outside_a_set(rt: HostRuntime) -> Result<(), Fail> {
-    for (b, x, wanted) in [
-        ((1, 1), (3, 6), true),
-        ((1, 1), (3, 7), false),
-        ((1, 1), (2, 6), false),
-        ((1, 1), (9, 12), true),
-        ((1, 1), (-3, 1), true),
-        ((0, 1), (3, 6), false),
-        ((0, 0), (3, 6), false),
-        ((1, 2), (3, 6), true),
-    ] {
-        assert_eq!(rt; within(rt.alloc(), b, x)?, Some(wanted), "{x:?}");
-    }
-    Ok(())
-}
-
-// Whether 2, 7 or 8 clashes for a variable that is 1 or 9, and whether no number does.
-fn jumped(alloc: Global) -> Result<(Option<bool>, Option<bool>), Fail> {
-    let mut sets = Vec::new(alloc);
-    sets.push(Dom::of(alloc, &[(1, 1), (9, 9)])?)?;
-    let state = State::new(sets);
-    let rule = Within::new(None, VarId(0), Dom::of(alloc, &[(7, 8), (2, 2)])?)?;
-    let empty = Within::new(None, VarId(0), range(alloc, (1, 0))?)?;
-    Ok((clash_at(&rule, &state)?, clash_at(&empty, &state)?))
-}
-
-#[test]
-fn holes_and_empty_sets(rt: HostRuntime) -> Result<(), Fail> {
-    assert_eq!(rt; jumped(rt.alloc())?, (Some(true), Some(true)));
-    Ok(())
-}
-
-#[test]
-fn conditions_that_are_refused(rt: HostRuntime) -> Result<(), Fail> {
-    let alloc = rt.alloc();
-    for (first, last) in [(1, 3), (1, 0)] {
-        let own = Within::new(
-            Some(atom(1, Op::Ge, 1)),
-            VarId(1),
-            range(alloc, (first, last))?,
-        );
-        assert_eq!(rt; own.err(), Some(BadCondition));
-        let other = Within::new(
-            Some(atom(0, Op::Ge, 1)),
-            VarId(1),
-            range(alloc, (first, last))?,
-        );
-        assert_eq!(rt; other.err(), None);
-    }
-    Ok(())
-}
-
-#[test]
-fn what_is_put_in_is_shown(rt: HostRuntime) -> Result<(), Fail> {
-    let cond = Some(atom(0, Op::Ge, 1));
-    let rule = Within::new(cond, VarId(1), range(rt.alloc(), (2, 4))?)?;
-    assert_eq!(rt; rule.cond(), cond);
-    assert_eq!(rt; rule.var(), VarId(1));
-    assert_eq!(rt; rule.set().upper(), Some(4));
-    Ok(())
-}
-
-#[test]
-fn scopes(rt: HostRuntime) -> Result<(), Fail> {
-    let alloc = rt.alloc();
-    let (a, b, c) = ((2, Op::Ge, 1), (0, Op::Ge, 1), (1, Op::Le, 7));
-    assert!(rt; is_counted(&nogood(alloc, &[])?, 0));
-    assert!(rt; is_counted(&nogood(alloc, &[a, b, c, (2, Op::Ge, 2)])?, 3));
-    assert!(rt;
-        is_counted(
-            &nogood(alloc, &[a, b, c, (2, Op::Ge, 2), (0, Op::Ne, 7), a])?,
-            3
-        )
-    );
-    for (cond, var) in [(0, 1), (1, 0)] {
-        let rule = Within::new(
-            Some(atom(cond, Op::Ge, 1)),
-            VarId(var),
-            range(alloc, (1, 2))?,
-        )?;
-        assert!(rt; is_counted(&rule, 2), "{cond} {var}");
-    }
-    assert!(rt; is_counted(&Within::new(None, VarId(0), range(alloc, (1, 2))?)?, 1));
-    Ok(())
-}
-
-fn crosses_threads<T: Send + Sync>(_value: &T) {}
-
-#[test]
-fn rules_cross_threads(rt: HostRuntime) -> Result<(), Fail> {
-    crosses_threads(&nogood(rt.alloc(), &[])?);
-    crosses_threads(&Within::new(None, VarId(0), range(rt.alloc(), (1, 2))?)?);
+    crosses_threads(&rule);
     Ok(())
 }

@@ -1,130 +1,362 @@
+use crate::rows::Answer::{Clash, Clashes, Gives, Quiet, Test, Turn};
+use crate::rows::Position::{Number, Var};
+use crate::rows::{Answer, Place, Position, answers, term_of, terms_of};
+use dp_domain::{Op, Test as _};
 use dp_rule_cumulative::*;
-use dp_trials::{LARGEST, clash_at, is_counted, state_of};
+use dp_trials::{LARGEST, is_counted};
 use std::alloc::Global;
 use std::test::Fail;
 
-const S: Term = Term::Var(VarId(0));
+const S: Position = Var(0);
 
-const ZERO: Term = Term::Const(0);
+const T: Position = Var(1);
 
-pub(crate) fn cumulative(
-    alloc: Global,
-    starts: &[Term],
-    durations: &[i64],
-    uses: &[i64],
-    capacity: i64,
-) -> Result<Cumulative, TaskRefusal> {
-    let starts = starts.to_vec(alloc).map_err(Memory::from)?;
+const ZERO: Position = Number(0);
+
+/// The starts, the durations and the uses of tasks, and what they share.
+type Tasks = (&'static [Position], &'static [i64], &'static [i64], i64);
+
+fn cumulative(alloc: Global, tasks: &Tasks) -> Result<Cumulative, TaskRefusal> {
+    let (starts, durations, uses, capacity) = *tasks;
+    let starts = terms_of(alloc, starts)?;
     let durations = durations.to_vec(alloc).map_err(Memory::from)?;
     let uses = uses.to_vec(alloc).map_err(Memory::from)?;
     Cumulative::new(alloc, starts, durations, uses, capacity)
 }
 
-// Why two tasks, the first of them at 0, are not made.
-fn refusal(alloc: Global, durations: &[i64], uses: &[i64], capacity: i64) -> Option<TaskRefusal> {
-    cumulative(alloc, &[ZERO, S], durations, uses, capacity).err()
-}
+const REFUSED: &[(Tasks, Option<TaskRefusal>)] = &[
+    // lengths
+    ((&[S], &[2], &[], 1), Some(TaskRefusal::BadLength)),
+    (
+        (&[ZERO, S], &[2, -1], &[1], -1),
+        Some(TaskRefusal::BadLength),
+    ),
+    (
+        (&[ZERO, S], &[-1], &[1, 1], 1),
+        Some(TaskRefusal::BadLength),
+    ),
+    (
+        (&[ZERO, S], &[1, 1, 1], &[1, 1, 1], 1),
+        Some(TaskRefusal::BadLength),
+    ),
+    // numbers
+    (
+        (&[ZERO, S], &[0, -1], &[LARGEST, 1], 1),
+        Some(TaskRefusal::BadTask(1)),
+    ),
+    (
+        (&[ZERO, S], &[0, 1], &[LARGEST, -1], -1),
+        Some(TaskRefusal::BadTask(1)),
+    ),
+    (
+        (&[ZERO, S], &[0, LARGEST + 1], &[LARGEST, 1], 1),
+        Some(TaskRefusal::BadTask(1)),
+    ),
+    (
+        (&[ZERO, S], &[0, 1], &[LARGEST, LARGEST + 1], 1),
+        Some(TaskRefusal::BadTask(1)),
+    ),
+    (
+        (&[ZERO, S], &[0, 1], &[LARGEST, 1], -1),
+        Some(TaskRefusal::BadCapacity),
+    ),
+    (
+        (&[ZERO, S], &[0, 1], &[LARGEST, 1], LARGEST + 1),
+        Some(TaskRefusal::BadCapacity),
+    ),
+    ((&[ZERO, S], &[0, LARGEST], &[LARGEST, 0], 0), None),
+    ((&[ZERO, S], &[0, 0], &[LARGEST, LARGEST], LARGEST), None),
+    ((&[S], &[-1], &[1], 1), Some(TaskRefusal::BadTask(0))),
+];
 
 #[test]
-fn lengths_that_are_refused(rt: HostRuntime) -> Result<(), Fail> {
-    let alloc = rt.alloc();
-    let refused = Some(TaskRefusal::BadLength);
-    assert_eq!(rt; cumulative(alloc, &[S], &[2], &[], 1).err(), refused);
-    assert_eq!(rt; refusal(alloc, &[2, -1], &[1], -1), refused);
-    assert_eq!(rt; refusal(alloc, &[-1], &[1, 1], 1), refused);
-    assert_eq!(rt; refusal(alloc, &[1, 1, 1], &[1, 1, 1], 1), refused);
-    Ok(())
-}
-
-#[test]
-fn numbers_that_are_refused(rt: HostRuntime) -> Result<(), Fail> {
-    for (duration, usage, capacity, wanted) in [
-        (-1, 1, 1, Some(TaskRefusal::BadTask(1))),
-        (1, -1, -1, Some(TaskRefusal::BadTask(1))),
-        (LARGEST + 1, 1, 1, Some(TaskRefusal::BadTask(1))),
-        (1, LARGEST + 1, 1, Some(TaskRefusal::BadTask(1))),
-        (1, 1, -1, Some(TaskRefusal::BadCapacity)),
-        (1, 1, LARGEST + 1, Some(TaskRefusal::BadCapacity)),
-        (LARGEST, 0, 0, None),
-        (0, LARGEST, LARGEST, None),
-    ] {
-        assert_eq!(rt;
-            refusal(rt.alloc(), &[0, duration], &[LARGEST, usage], capacity),
-            wanted,
-            "{duration} {usage} {capacity}"
-        );
-    }
-    let one = cumulative(rt.alloc(), &[S], &[-1], &[1], 1);
-    assert_eq!(rt; one.err(), Some(TaskRefusal::BadTask(0)));
-    Ok(())
-}
-
-#[test]
-fn a_task_beside_one_from_0_to_2(rt: HostRuntime) -> Result<(), Fail> {
-    let alloc = rt.alloc();
-    for (first, last, duration, usage, capacity, wanted) in [
-        (2, 2, 2, 1, 1, false),
-        (1, 1, 2, 1, 1, true),
-        (1, 1, 2, 1, 2, false),
-        (-1, -1, 2, 1, 1, true),
-        (-2, -2, 2, 1, 1, false),
-        (0, 1, 2, 1, 1, true),
-        (0, 2, 2, 1, 1, false),
-        (0, 0, 0, 1, 1, false),
-        (0, 0, 2, 0, 1, false),
-        (5, 5, 1, 2, 1, true),
-        (3, 2, 0, 0, 1, true),
-    ] {
-        let rule = cumulative(alloc, &[ZERO, S], &[2, duration], &[1, usage], capacity)?;
-        assert_eq!(rt;
-            clash_at(&rule, &state_of(alloc, &[(first, last), (0, 0)])?)?,
-            Some(wanted),
-            "{first} {last} {duration} {usage} {capacity}"
-        );
+fn refusals(rt: HostRuntime) -> Result<(), Fail> {
+    for (tasks, refusal) in REFUSED {
+        assert_eq!(rt; cumulative(rt.alloc(), tasks).err(), *refusal, "{tasks:?}");
     }
     Ok(())
 }
 
-#[test]
-fn one_start_at_two_places(rt: HostRuntime) -> Result<(), Fail> {
-    let alloc = rt.alloc();
-    let rule = cumulative(alloc, &[S, S], &[2, 2], &[1, 1], 1)?;
-    assert!(rt; is_counted(&rule, 1));
-    assert_eq!(rt;
-        clash_at(&rule, &state_of(alloc, &[(0, 1), (0, 0)])?)?,
-        Some(true)
-    );
-    assert_eq!(rt;
-        clash_at(&rule, &state_of(alloc, &[(0, 2), (0, 0)])?)?,
-        Some(false)
-    );
-    Ok(())
-}
+/// Two tasks of one start.
+const TWICE: Tasks = (&[S, S], &[2, 2], &[1, 1], 1);
+
+/// Tasks, a place, and whether they clash there.
+const TESTS: &[(Tasks, Place, Answer)] = &[
+    // a task beside one from 0 to 2
+    (
+        (&[ZERO, S], &[2, 2], &[1, 1], 1),
+        (&[(2, 2)], &[], &[]),
+        Test(false),
+    ),
+    (
+        (&[ZERO, S], &[2, 2], &[1, 1], 1),
+        (&[(1, 1)], &[], &[]),
+        Test(true),
+    ),
+    (
+        (&[ZERO, S], &[2, 2], &[1, 1], 2),
+        (&[(1, 1)], &[], &[]),
+        Test(false),
+    ),
+    (
+        (&[ZERO, S], &[2, 2], &[1, 1], 1),
+        (&[(-1, -1)], &[], &[]),
+        Test(true),
+    ),
+    (
+        (&[ZERO, S], &[2, 2], &[1, 1], 1),
+        (&[(-2, -2)], &[], &[]),
+        Test(false),
+    ),
+    (
+        (&[ZERO, S], &[2, 2], &[1, 1], 1),
+        (&[(0, 1)], &[], &[]),
+        Test(true),
+    ),
+    (
+        (&[ZERO, S], &[2, 2], &[1, 1], 1),
+        (&[(0, 2)], &[], &[]),
+        Test(false),
+    ),
+    (
+        (&[ZERO, S], &[2, 0], &[1, 1], 1),
+        (&[(0, 0)], &[], &[]),
+        Test(false),
+    ),
+    (
+        (&[ZERO, S], &[2, 2], &[1, 0], 1),
+        (&[(0, 0)], &[], &[]),
+        Test(false),
+    ),
+    (
+        (&[ZERO, S], &[2, 1], &[1, 2], 1),
+        (&[(5, 5)], &[], &[]),
+        Test(true),
+    ),
+    (
+        (&[ZERO, S], &[2, 0], &[1, 0], 1),
+        (&[(3, 2)], &[], &[]),
+        Test(true),
+    ),
+    // one start at two places
+    (TWICE, (&[(0, 1)], &[], &[]), Test(true)),
+    (TWICE, (&[(0, 2)], &[], &[]), Test(false)),
+    // starts at the ends of 64 bits
+    (
+        (
+            &[Number(i64::MAX), Number(i64::MAX)],
+            &[LARGEST, LARGEST],
+            &[1, 1],
+            1,
+        ),
+        (&[], &[], &[]),
+        Test(true),
+    ),
+    (
+        (
+            &[Number(i64::MIN), Number(i64::MIN)],
+            &[LARGEST, LARGEST],
+            &[1, 1],
+            1,
+        ),
+        (&[], &[], &[]),
+        Test(true),
+    ),
+    (
+        (
+            &[Number(i64::MIN), Number(i64::MAX)],
+            &[LARGEST, LARGEST],
+            &[1, 1],
+            1,
+        ),
+        (&[], &[], &[]),
+        Test(false),
+    ),
+];
+
+/// Starts of a task and of one that runs from 4 until 7 and uses 2 of 3.
+const BESIDE: &[Position] = &[S, Number(4)];
+
+/// Tasks, a place, and their turn beside one from 4 to 7.
+const PUSHED: &[(Tasks, Place, Answer)] = &[
+    // to the right
+    (
+        (BESIDE, &[2, 3], &[2, 2], 3),
+        (&[(3, 9)], &[], &[]),
+        Turn((0, Op::Ge, 5)),
+    ),
+    (
+        (BESIDE, &[1, 3], &[2, 2], 3),
+        (&[(5, 9)], &[], &[]),
+        Turn((0, Op::Ge, 6)),
+    ),
+    (
+        (BESIDE, &[10, 3], &[2, 2], 3),
+        (&[(0, 9)], &[], &[]),
+        Turn((0, Op::Ge, 7)),
+    ),
+    (
+        (BESIDE, &[5, 3], &[2, 2], 3),
+        (&[(6, 7)], &[], &[]),
+        Turn((0, Op::Ge, 7)),
+    ),
+    (
+        (BESIDE, &[2, 3], &[4, 2], 3),
+        (&[(3, 9)], &[], &[]),
+        Turn((0, Op::Ge, 5)),
+    ),
+    // to the left
+    (
+        (BESIDE, &[2, 3], &[2, 2], 3),
+        (&[(0, 4)], &[], &[]),
+        Turn((0, Op::Le, 2)),
+    ),
+    (
+        (BESIDE, &[1, 3], &[2, 2], 3),
+        (&[(0, 6)], &[], &[]),
+        Turn((0, Op::Le, 5)),
+    ),
+    (
+        (BESIDE, &[10, 3], &[2, 2], 3),
+        (&[(-20, 4)], &[], &[]),
+        Turn((0, Op::Le, -6)),
+    ),
+    // nowhere
+    ((BESIDE, &[2, 3], &[2, 2], 3), (&[(2, 9)], &[], &[]), Quiet),
+    ((BESIDE, &[2, 3], &[2, 2], 3), (&[(0, 7)], &[], &[]), Quiet),
+    ((BESIDE, &[2, 3], &[1, 2], 3), (&[(3, 9)], &[], &[]), Quiet),
+    ((BESIDE, &[2, 3], &[0, 2], 3), (&[(3, 9)], &[], &[]), Quiet),
+    ((BESIDE, &[0, 3], &[2, 2], 3), (&[(3, 9)], &[], &[]), Quiet),
+    ((BESIDE, &[1, 3], &[1, 2], 3), (&[(5, 5)], &[], &[]), Quiet),
+    ((BESIDE, &[2, 3], &[2, 2], 3), (&[(3, 4)], &[], &[]), Clash),
+    ((BESIDE, &[8, 3], &[2, 2], 3), (&[(-3, 4)], &[], &[]), Clash),
+    // over a hole
+    (
+        (BESIDE, &[10, 3], &[2, 2], 3),
+        (&[(0, 9)], &[], &[(0, Op::Ne, 7)]),
+        Turn((0, Op::Ge, 8)),
+    ),
+    (
+        (BESIDE, &[2, 3], &[2, 2], 3),
+        (&[(0, 4)], &[], &[(0, Op::Ne, 2)]),
+        Turn((0, Op::Le, 1)),
+    ),
+];
+
+/// Starts of two tasks and of one at 4.
+const THREE: &[Position] = &[T, S, Number(4)];
+
+/// Starts of a task between two.
+const BETWEEN: &[Position] = &[S, ZERO, Number(10)];
+
+/// Tasks, a place, and their turn.
+const TURNS: &[(Tasks, Place, Answer)] = &[
+    // a task that never fits, and one that does
+    (
+        (&[S], &[2], &[2], 1),
+        (&[(0, 3)], &[], &[]),
+        Gives((0, Op::Ge, 2), &[]),
+    ),
+    (
+        (&[S], &[2], &[2], 1),
+        (&[(0, 3)], &[], &[(0, Op::Ge, 2)]),
+        Clashes(&[(0, Op::Ge, 2)]),
+    ),
+    ((&[S], &[2], &[1], 1), (&[(0, 3)], &[], &[]), Quiet),
+    // a task after another
+    (
+        (&[S, T], &[3, 3], &[1, 1], 1),
+        (&[(0, 5), (0, 5)], &[], &[(0, Op::Le, 1)]),
+        Gives((1, Op::Ge, 3), &[(0, Op::Le, 1)]),
+    ),
+    // the first variable that has a bound
+    (
+        (THREE, &[2, 2, 3], &[2, 2, 2], 3),
+        (&[(3, 9), (3, 9)], &[], &[]),
+        Turn((0, Op::Ge, 5)),
+    ),
+    (
+        (THREE, &[2, 2, 3], &[2, 2, 2], 3),
+        (&[(0, 9), (3, 9)], &[], &[]),
+        Turn((1, Op::Ge, 5)),
+    ),
+    // a lower bound before an upper
+    (
+        (BETWEEN, &[2, 1, 1], &[2, 2, 2], 3),
+        (&[(0, 9)], &[], &[]),
+        Turn((0, Op::Ge, 1)),
+    ),
+    (
+        (BETWEEN, &[2, 1, 1], &[2, 2, 2], 3),
+        (&[(1, 9)], &[], &[]),
+        Turn((0, Op::Le, 8)),
+    ),
+    // one variable that starts two tasks
+    (
+        (&[S, S, Number(4)], &[1, 1, 3], &[1, 1, 1], 2),
+        (&[(5, 9)], &[], &[]),
+        Turn((0, Op::Ge, 6)),
+    ),
+    // starts that are large
+    (
+        (&[S, Number(LARGEST - 1)], &[LARGEST, 1], &[1, 1], 1),
+        (&[(1, LARGEST)], &[], &[]),
+        Turn((0, Op::Ge, LARGEST)),
+    ),
+    (
+        (&[S, Number(-LARGEST)], &[LARGEST, 1], &[1, 1], 1),
+        (&[(-LARGEST, -1)], &[], &[]),
+        Turn((0, Op::Ge, 1 - LARGEST)),
+    ),
+    (
+        (&[S, Number(LARGEST)], &[LARGEST, 1], &[1, 1], 1),
+        (&[(-LARGEST, LARGEST)], &[], &[]),
+        Turn((0, Op::Le, 0)),
+    ),
+    (
+        (&[S, Number(i64::MAX)], &[LARGEST, 1], &[1, 1], 1),
+        (&[(1, LARGEST)], &[], &[]),
+        Quiet,
+    ),
+    (
+        (&[S, Number(i64::MIN)], &[LARGEST, 1], &[1, 1], 1),
+        (&[(1, LARGEST)], &[], &[]),
+        Quiet,
+    ),
+    // one start twice in a wide domain: at once it is too much, or fits
+    (
+        TWICE,
+        (&[(-LARGEST, LARGEST)], &[], &[]),
+        Turn((0, Op::Ge, 2 - LARGEST)),
+    ),
+    (
+        (&[S, S], &[2, 2], &[1, 1], 2),
+        (&[(-LARGEST, LARGEST)], &[], &[]),
+        Quiet,
+    ),
+];
 
 #[test]
-fn starts_at_the_ends_of_64_bits(rt: HostRuntime) -> Result<(), Fail> {
-    let alloc = rt.alloc();
-    for (start, last, wanted) in [
-        (i64::MAX, i64::MAX, true),
-        (i64::MIN, i64::MIN, true),
-        (i64::MIN, i64::MAX, false),
-    ] {
-        let starts = [Term::Const(start), Term::Const(last)];
-        let rule = cumulative(alloc, &starts, &[LARGEST, LARGEST], &[1, 1], 1)?;
-        assert_eq!(rt;
-            clash_at(&rule, &state_of(alloc, &[(0, 0), (0, 0)])?)?,
-            Some(wanted),
-            "{start}"
-        );
+fn tests_turns_and_explanations(rt: HostRuntime) -> Result<(), Fail> {
+    for rows in [TESTS, PUSHED, TURNS] {
+        for (tasks, place, answer) in rows {
+            let rule = cumulative(rt.alloc(), tasks)?;
+            assert!(rt;
+                answers(rt.alloc(), &rule, place, *answer)?,
+                "{tasks:?} {place:?} {answer:?}"
+            );
+        }
     }
     Ok(())
 }
 
+fn crosses_threads<T: Send + Sync>(_value: &T) {}
+
 #[test]
-fn what_is_put_in_is_shown(rt: HostRuntime) -> Result<(), Fail> {
-    let rule = cumulative(rt.alloc(), &[S], &[2], &[3], 4)?;
+fn shapes(rt: HostRuntime) -> Result<(), Fail> {
+    let rule = cumulative(rt.alloc(), &(&[S], &[2], &[3], 4))?;
     let task = Task {
-        start: S,
+        start: term_of(S),
         duration: 2,
         usage: 3,
     };
@@ -132,13 +364,7 @@ fn what_is_put_in_is_shown(rt: HostRuntime) -> Result<(), Fail> {
     assert_eq!(rt; rule.capacity(), 4);
     assert!(rt; is_counted(&rule, 1));
     assert!(rt; !rule.is_point(VarId(0), 2));
-    Ok(())
-}
-
-fn crosses_threads<T: Send + Sync>(_value: &T) {}
-
-#[test]
-fn rules_cross_threads(rt: HostRuntime) -> Result<(), Fail> {
-    crosses_threads(&cumulative(rt.alloc(), &[S], &[2], &[3], 4)?);
+    crosses_threads(&rule);
+    assert!(rt; is_counted(&cumulative(rt.alloc(), &TWICE)?, 1));
     Ok(())
 }

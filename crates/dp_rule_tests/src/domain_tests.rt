@@ -1,14 +1,15 @@
 ghost use Rattle.std.specs.Prelude.{◌≡◌, length, IfOk};
-ghost use Rattle.dp_domain.specs.Sets.{IsSmall};
 
+use crate::rows::{NONE, set_of};
 use dp_domain::*;
+use dp_trials::LARGEST;
 use std::alloc::Global;
 use std::test::Fail;
 
 const BOUND: i64 = 1_000_000_000_000_000_000;
 
 #[test]
-fn atoms_at_the_edges_of_their_ranges(rt: HostRuntime) {
+fn atoms_and_their_negations(rt: HostRuntime) {
     for (op, value, nameable) in [
         (Op::Ge, -BOUND, false),
         (Op::Ge, -BOUND + 1, true),
@@ -33,10 +34,6 @@ fn atoms_at_the_edges_of_their_ranges(rt: HostRuntime) {
             "at {value}"
         );
     }
-}
-
-#[test]
-fn negations(rt: HostRuntime) {
     for (op, value, opposite, beyond) in [
         (Op::Ge, 4, Op::Le, 3),
         (Op::Ge, -BOUND + 1, Op::Le, -BOUND),
@@ -55,67 +52,55 @@ fn negations(rt: HostRuntime) {
 }
 
 #[test]
-fn intervals_of_ranges(rt: HostRuntime) -> Result<(), Fail> {
+fn intervals(rt: HostRuntime) -> Result<(), Fail> {
     let alloc = rt.alloc();
     let whole = Dom::range(alloc, 0, 3)?.intervals(alloc)?;
     assert_eq!(rt; whole.as_slice(), [(0, 3)].as_slice());
     let none = Dom::range(alloc, 5, 3)?;
     assert_eq!(rt; none.is_empty(), true);
     assert_eq!(rt; none.intervals(alloc)?.len(), 0);
-    Ok(())
-}
-
-#[test]
-fn maximal_intervals(rt: HostRuntime) -> Result<(), Fail> {
-    let alloc = rt.alloc();
     let apart = Dom::of(alloc, &[(0, 0), (2, 2), (5, 5)])?.intervals(alloc)?;
     assert_eq!(rt; apart.as_slice(), [(0, 0), (2, 2), (5, 5)].as_slice());
     let joined = Dom::of(alloc, &[(0, 1), (2, 4)])?.intervals(alloc)?;
     assert_eq!(rt; joined.as_slice(), [(0, 4)].as_slice());
     let mixed = Dom::of(alloc, &[(7, 9), (3, 1), (-2, 4), (0, 1), (8, 12)])?.intervals(alloc)?;
     assert_eq!(rt; mixed.as_slice(), [(-2, 4), (7, 12)].as_slice());
+    for (of, union) in [
+        ([(1, 3), (4, 6), (7, 7)], [(1, 7)].as_slice()),
+        (
+            [(1, 3), (5, 6), (8, 8)],
+            [(1, 3), (5, 6), (8, 8)].as_slice(),
+        ),
+        ([(1, 9), (2, 3), (4, 5)], [(1, 9)].as_slice()),
+        ([(5, 5), (5, 5), (5, 4)], [(5, 5)].as_slice()),
+        ([(3, 1), (2, 1), (9, 0)], [].as_slice()),
+        (
+            [(LARGEST, LARGEST), (-LARGEST, -LARGEST), (-LARGEST + 1, 0)],
+            [(-LARGEST, 0), (LARGEST, LARGEST)].as_slice(),
+        ),
+    ] {
+        let found = set_of(alloc, of)?.intervals(alloc)?;
+        assert_eq!(rt; found.as_slice(), union);
+    }
     Ok(())
-}
-
-const WIDE: i64 = 1_000_000_000;
-
-// An interval with no number.
-const NONE: (i64, i64) = (1, 0);
-
-fn small(number: i64) -> i64
-    ensures { IsSmall result }
-{
-    number.clamp(-WIDE, WIDE)
-}
-
-fn set_of(alloc: Global, intervals: [(i64, i64); 3]) -> Result<Dom, Memory> {
-    let [(a, b), (c, d), (e, f)] = intervals;
-    Dom::of(
-        alloc,
-        &[
-            (small(a), small(b)),
-            (small(c), small(d)),
-            (small(e), small(f)),
-        ],
-    )
 }
 
 #[test]
 fn cuts_of_intervals(rt: HostRuntime) -> Result<(), Fail> {
     let alloc = rt.alloc();
-    let wide = [(-WIDE, WIDE), NONE, NONE];
+    let wide = [(-LARGEST, LARGEST), NONE, NONE];
     let two = [(1, 3), (7, 9), NONE];
     let none = [NONE, NONE, NONE];
     for (of, op, value, left) in [
-        (wide, Op::Ge, -WIDE, [(-WIDE, WIDE)].as_slice()),
-        (wide, Op::Ge, WIDE, [(WIDE, WIDE)].as_slice()),
-        (wide, Op::Ge, WIDE + 1, [].as_slice()),
-        (wide, Op::Le, 5, [(-WIDE, 5)].as_slice()),
+        (wide, Op::Ge, -LARGEST, [(-LARGEST, LARGEST)].as_slice()),
+        (wide, Op::Ge, LARGEST, [(LARGEST, LARGEST)].as_slice()),
+        (wide, Op::Ge, LARGEST + 1, [].as_slice()),
+        (wide, Op::Le, 5, [(-LARGEST, 5)].as_slice()),
         (wide, Op::Eq, 6, [(6, 6)].as_slice()),
-        (wide, Op::Eq, -WIDE - 1, [].as_slice()),
-        (wide, Op::Ne, 0, [(-WIDE, -1), (1, WIDE)].as_slice()),
-        (wide, Op::Ne, -WIDE, [(-WIDE + 1, WIDE)].as_slice()),
-        (wide, Op::Ne, WIDE, [(-WIDE, WIDE - 1)].as_slice()),
+        (wide, Op::Eq, -LARGEST - 1, [].as_slice()),
+        (wide, Op::Ne, 0, [(-LARGEST, -1), (1, LARGEST)].as_slice()),
+        (wide, Op::Ne, -LARGEST, [(-LARGEST + 1, LARGEST)].as_slice()),
+        (wide, Op::Ne, LARGEST, [(-LARGEST, LARGEST - 1)].as_slice()),
         (two, Op::Ge, 3, [(3, 3), (7, 9)].as_slice()),
         (two, Op::Ge, 4, [(7, 9)].as_slice()),
         (two, Op::Le, 7, [(1, 3), (7, 7)].as_slice()),
@@ -142,30 +127,7 @@ fn cuts_of_intervals(rt: HostRuntime) -> Result<(), Fail> {
 }
 
 #[test]
-fn unions_of_intervals(rt: HostRuntime) -> Result<(), Fail> {
-    let alloc = rt.alloc();
-    for (of, union) in [
-        ([(1, 3), (4, 6), (7, 7)], [(1, 7)].as_slice()),
-        (
-            [(1, 3), (5, 6), (8, 8)],
-            [(1, 3), (5, 6), (8, 8)].as_slice(),
-        ),
-        ([(1, 9), (2, 3), (4, 5)], [(1, 9)].as_slice()),
-        ([(5, 5), (5, 5), (5, 4)], [(5, 5)].as_slice()),
-        ([(3, 1), (2, 1), (9, 0)], [].as_slice()),
-        (
-            [(WIDE, WIDE), (-WIDE, -WIDE), (-WIDE + 1, 0)],
-            [(-WIDE, 0), (WIDE, WIDE)].as_slice(),
-        ),
-    ] {
-        let found = set_of(alloc, of)?.intervals(alloc)?;
-        assert_eq!(rt; found.as_slice(), union);
-    }
-    Ok(())
-}
-
-#[test]
-fn numbers_that_two_sets_share(rt: HostRuntime) -> Result<(), Fail> {
+fn two_sets(rt: HostRuntime) -> Result<(), Fail> {
     let alloc = rt.alloc();
     for (one, other, answer) in [
         ([(1, 3), (7, 9), NONE], [(4, 6), (10, 12), NONE], false),
@@ -174,10 +136,14 @@ fn numbers_that_two_sets_share(rt: HostRuntime) -> Result<(), Fail> {
         ([(1, 3), (7, 9), NONE], [(-5, 0), (4, 6), NONE], false),
         ([(1, 3), (7, 9), NONE], [(2, 2), NONE, NONE], true),
         ([NONE, NONE, NONE], [(0, 9), NONE, NONE], false),
-        ([(-WIDE, 0), (5, WIDE), NONE], [(1, 4), NONE, NONE], false),
         (
-            [(-WIDE, 0), (5, WIDE), NONE],
-            [(1, 4), (WIDE, WIDE), NONE],
+            [(-LARGEST, 0), (5, LARGEST), NONE],
+            [(1, 4), NONE, NONE],
+            false,
+        ),
+        (
+            [(-LARGEST, 0), (5, LARGEST), NONE],
+            [(1, 4), (LARGEST, LARGEST), NONE],
             true,
         ),
     ] {
@@ -185,6 +151,51 @@ fn numbers_that_two_sets_share(rt: HostRuntime) -> Result<(), Fail> {
         let second = set_of(alloc, other)?;
         assert_eq!(rt; first.shares(&second), answer);
         assert_eq!(rt; second.shares(&first), answer);
+    }
+    let wide = [(-LARGEST, LARGEST), NONE, NONE];
+    let two = [(1, 3), (7, 9), NONE];
+    let none = [NONE, NONE, NONE];
+    for (one, other, both, first) in [
+        (
+            two,
+            [(2, 7), NONE, NONE],
+            [(2, 3), (7, 7)].as_slice(),
+            [(1, 1), (8, 9)].as_slice(),
+        ),
+        (
+            two,
+            [(2, 2), (8, 8), NONE],
+            [(2, 2), (8, 8)].as_slice(),
+            [(1, 1), (3, 3), (7, 7), (9, 9)].as_slice(),
+        ),
+        (
+            two,
+            [(4, 6), (10, 12), NONE],
+            [].as_slice(),
+            [(1, 3), (7, 9)].as_slice(),
+        ),
+        (two, none, [].as_slice(), [(1, 3), (7, 9)].as_slice()),
+        (none, two, [].as_slice(), [].as_slice()),
+        (two, wide, [(1, 3), (7, 9)].as_slice(), [].as_slice()),
+        (
+            wide,
+            two,
+            [(1, 3), (7, 9)].as_slice(),
+            [(-LARGEST, 0), (4, 6), (10, LARGEST)].as_slice(),
+        ),
+        (
+            wide,
+            [(-LARGEST, -LARGEST), (LARGEST, LARGEST), NONE],
+            [(-LARGEST, -LARGEST), (LARGEST, LARGEST)].as_slice(),
+            [(-LARGEST + 1, LARGEST - 1)].as_slice(),
+        ),
+    ] {
+        let set = set_of(alloc, one)?;
+        let others = set_of(alloc, other)?;
+        let common = set.common(&others)?.intervals(alloc)?;
+        assert_eq!(rt; common.as_slice(), both);
+        let without = set.without(&others)?.intervals(alloc)?;
+        assert_eq!(rt; without.as_slice(), first);
     }
     Ok(())
 }
@@ -217,57 +228,6 @@ fn nearest_numbers(rt: HostRuntime) -> Result<(), Fail> {
 }
 
 #[test]
-fn numbers_in_both_sets_and_in_the_first_alone(rt: HostRuntime) -> Result<(), Fail> {
-    let alloc = rt.alloc();
-    let wide = [(-WIDE, WIDE), NONE, NONE];
-    let two = [(1, 3), (7, 9), NONE];
-    let none = [NONE, NONE, NONE];
-    for (one, other, both, first) in [
-        (
-            two,
-            [(2, 7), NONE, NONE],
-            [(2, 3), (7, 7)].as_slice(),
-            [(1, 1), (8, 9)].as_slice(),
-        ),
-        (
-            two,
-            [(2, 2), (8, 8), NONE],
-            [(2, 2), (8, 8)].as_slice(),
-            [(1, 1), (3, 3), (7, 7), (9, 9)].as_slice(),
-        ),
-        (
-            two,
-            [(4, 6), (10, 12), NONE],
-            [].as_slice(),
-            [(1, 3), (7, 9)].as_slice(),
-        ),
-        (two, none, [].as_slice(), [(1, 3), (7, 9)].as_slice()),
-        (none, two, [].as_slice(), [].as_slice()),
-        (two, wide, [(1, 3), (7, 9)].as_slice(), [].as_slice()),
-        (
-            wide,
-            two,
-            [(1, 3), (7, 9)].as_slice(),
-            [(-WIDE, 0), (4, 6), (10, WIDE)].as_slice(),
-        ),
-        (
-            wide,
-            [(-WIDE, -WIDE), (WIDE, WIDE), NONE],
-            [(-WIDE, -WIDE), (WIDE, WIDE)].as_slice(),
-            [(-WIDE + 1, WIDE - 1)].as_slice(),
-        ),
-    ] {
-        let set = set_of(alloc, one)?;
-        let others = set_of(alloc, other)?;
-        let common = set.common(&others)?.intervals(alloc)?;
-        assert_eq!(rt; common.as_slice(), both);
-        let without = set.without(&others)?.intervals(alloc)?;
-        assert_eq!(rt; without.as_slice(), first);
-    }
-    Ok(())
-}
-
-#[test]
 fn bounds_of_supported_values(rt: HostRuntime) -> Result<(), Fail> {
     let alloc = rt.alloc();
     let x = VarId(4);
@@ -290,25 +250,29 @@ fn bounds_of_supported_values(rt: HostRuntime) -> Result<(), Fail> {
 #[test]
 fn refuted_numbers(rt: HostRuntime) -> Result<(), Fail> {
     let alloc = rt.alloc();
-    let wide = [(-WIDE, WIDE), NONE, NONE];
+    let wide = [(-LARGEST, LARGEST), NONE, NONE];
     let four = [(2, 5), NONE, NONE];
     for (of, atoms, left) in [
         (
             wide,
             [(Op::Ge, 3), (Op::Le, 8)],
-            [(-WIDE, 2), (9, WIDE)].as_slice(),
+            [(-LARGEST, 2), (9, LARGEST)].as_slice(),
         ),
         (
             wide,
             [(Op::Ge, 3), (Op::Ne, 8)],
-            [(-WIDE, 2), (8, 8)].as_slice(),
+            [(-LARGEST, 2), (8, 8)].as_slice(),
         ),
-        (wide, [(Op::Ge, 3), (Op::Ge, 3)], [(-WIDE, 2)].as_slice()),
-        (wide, [(Op::Le, 3), (Op::Ge, 4)], [(-WIDE, WIDE)].as_slice()),
+        (wide, [(Op::Ge, 3), (Op::Ge, 3)], [(-LARGEST, 2)].as_slice()),
+        (
+            wide,
+            [(Op::Le, 3), (Op::Ge, 4)],
+            [(-LARGEST, LARGEST)].as_slice(),
+        ),
         (
             wide,
             [(Op::Eq, 3), (Op::Le, 4)],
-            [(-WIDE, 2), (4, WIDE)].as_slice(),
+            [(-LARGEST, 2), (4, LARGEST)].as_slice(),
         ),
         (four, [(Op::Ge, 1), (Op::Le, 9)], [].as_slice()),
         (four, [(Op::Ne, 3), (Op::Ne, 4)], [(3, 4)].as_slice()),
@@ -338,30 +302,6 @@ fn with_a_hole(alloc: Global) -> Result<State, Memory>
 }
 
 #[test]
-fn reads_of_a_state_with_a_hole(rt: HostRuntime) -> Result<(), Fail> {
-    let state = with_a_hole(rt.alloc())?;
-    let x = VarId(0);
-    assert_eq!(rt; state.len(), 1);
-    assert_eq!(rt; state.is_empty(), false);
-    assert_eq!(rt; state.dead(), false);
-    assert_eq!(rt; state.lower(x), Some(1));
-    assert_eq!(rt; state.upper(x), Some(8));
-    for (number, held) in [
-        (0, false),
-        (1, true),
-        (3, true),
-        (4, false),
-        (6, false),
-        (7, true),
-        (8, true),
-        (9, false),
-    ] {
-        assert_eq!(rt; state.has(x, number), held, "at {number}");
-    }
-    Ok(())
-}
-
-#[test]
 fn entailed_and_excluded(rt: HostRuntime) -> Result<(), Fail> {
     let alloc = rt.alloc();
     for (op, value, entailed, lower, upper) in [
@@ -388,24 +328,39 @@ fn entailed_and_excluded(rt: HostRuntime) -> Result<(), Fail> {
     Ok(())
 }
 
+fn crosses_threads<T: Send + Sync>(_value: &T) {}
+
 #[test]
-fn a_copy_goes_its_own_way(rt: HostRuntime) -> Result<(), Fail> {
-    let state = with_a_hole(rt.alloc())?;
-    let mut copy = state.copy()?;
+fn states(rt: HostRuntime) -> Result<(), Fail> {
+    let alloc = rt.alloc();
     let x = VarId(0);
+    let mut state = with_a_hole(alloc)?;
+    assert_eq!(rt; state.len(), 1);
+    assert_eq!(rt; state.is_empty(), false);
+    assert_eq!(rt; state.dead(), false);
+    assert_eq!(rt; state.lower(x), Some(1));
+    assert_eq!(rt; state.upper(x), Some(8));
+    for (number, held) in [
+        (0, false),
+        (1, true),
+        (3, true),
+        (4, false),
+        (6, false),
+        (7, true),
+        (8, true),
+        (9, false),
+    ] {
+        assert_eq!(rt; state.has(x, number), held, "at {number}");
+    }
+    crosses_threads(&state);
+    crosses_threads(state.set(VarId(0)));
+    crosses_threads(&Atom::new(VarId(0), Op::Ge, 7));
+    let mut copy = state.copy()?;
     if let Some(atom) = Atom::new(x, Op::Ge, 7) {
         assert_eq!(rt; copy.exclude(atom)?, true);
     }
     assert_eq!(rt; copy.lower(x), Some(7));
     assert_eq!(rt; state.lower(x), Some(1));
-    Ok(())
-}
-
-#[test]
-fn a_set_in_the_place_of_another(rt: HostRuntime) -> Result<(), Fail> {
-    let alloc = rt.alloc();
-    let mut state = with_a_hole(alloc)?;
-    let x = VarId(0);
     let old = state.replace(x, Dom::range(alloc, 4, 5)?);
     assert_eq!(rt;
         old.intervals(alloc)?.as_slice(),
@@ -413,16 +368,5 @@ fn a_set_in_the_place_of_another(rt: HostRuntime) -> Result<(), Fail> {
     );
     assert_eq!(rt; state.lower(x), Some(4));
     assert_eq!(rt; state.upper(x), Some(5));
-    Ok(())
-}
-
-fn crosses_threads<T: Send + Sync>(_value: &T) {}
-
-#[test]
-fn states_cross_threads(rt: HostRuntime) -> Result<(), Fail> {
-    let state = with_a_hole(rt.alloc())?;
-    crosses_threads(&state);
-    crosses_threads(state.set(VarId(0)));
-    crosses_threads(&Atom::new(VarId(0), Op::Ge, 7));
     Ok(())
 }

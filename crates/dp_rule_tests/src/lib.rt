@@ -1,31 +1,21 @@
-// What the tests of domains and of the rules over them show, by public calls alone.
+// What the tests of domains and of the rules over them show, by public calls alone: a table of rows for each kind.
 #![tactic(auto)]
 
 #[cfg(test)]
 mod all_different_tests;
 #[cfg(test)]
-mod all_different_turn_tests;
-#[cfg(test)]
 mod arith_tests;
 #[cfg(test)]
 mod clause_tests;
 #[cfg(test)]
-mod clause_turn_tests;
-#[cfg(test)]
 mod cumulative_tests;
-#[cfg(test)]
-mod cumulative_turn_tests;
 #[cfg(test)]
 mod domain_tests;
 #[cfg(test)]
 mod element_tests;
 #[cfg(test)]
-mod element_turn_tests;
-#[cfg(test)]
-mod linear_bound_tests;
-#[cfg(test)]
 mod linear_tests;
 #[cfg(test)]
-mod linear_turn_tests;
+mod rows;
 #[cfg(test)]
-mod tight_interval_tests;
+mod within_tests;

@@ -1,6 +1,9 @@
-use dp_domain::{Dom, Op};
+use crate::rows::Answer::{Clashes, Gives, Quiet, Test, Turn};
+use crate::rows::{Answer, Place, Used, answers, condition_of};
+use dp_base::Memory;
+use dp_domain::Op;
 use dp_rule_linear::*;
-use dp_trials::{clash_at, is_counted, state_of};
+use dp_trials::{LARGEST as BOUND, is_counted};
 use std::alloc::Global;
 use std::test::Fail;
 
@@ -8,241 +11,415 @@ const LARGEST: i64 = 10_000_000_000_000_000;
 
 const LARGEST_RHS: i128 = 1_000_000_000_000_000_000_000_000_000_000_000_000;
 
-const BOUND: i64 = 1_000_000_000;
+/// Multiples of the variables at these places.
+type Terms = &'static [(i64, u32)];
 
-// The terms a*x and b*y.
-fn two(alloc: Global, a: i64, x: u32, b: i64, y: u32) -> Result<Vec<(i64, VarId)>, Memory> {
-    let mut terms = Vec::new(alloc);
-    terms.push((a, VarId(x)))?;
-    terms.push((b, VarId(y)))?;
-    Ok(terms)
+/// A sum under a condition: at most a number, or other than it.
+#[derive(Clone, Copy, Debug)]
+enum Linear {
+    AtMost(Option<Used>, Terms, i128),
+    Other(Option<Used>, Terms, i128),
 }
 
-// Whether both kinds refuse a*x + b*y under [cond >= 1] so.
-fn refused(
-    alloc: Global,
-    cond: u32,
-    terms: &Vec<(i64, VarId)>,
-    rhs: i128,
-    refusal: Option<LinRefusal>,
-) -> Result<bool, Memory> {
-    let cond = Atom::new(VarId(cond), Op::Ge, 1);
-    let at_most = LinLe::new(cond, terms.as_slice().to_vec(alloc)?, rhs).err();
-    let differs = LinNe::new(cond, terms.as_slice().to_vec(alloc)?, rhs).err();
-    Ok(at_most == refusal && differs == refusal)
-}
+use Linear::{AtMost, Other};
 
-fn bad_term(alloc: Global, a: i64, x: u32, b: i64, y: u32, place: usize) -> Result<bool, Memory> {
-    refused(
-        alloc,
+/// Both kinds of these terms under `[cond >= 1]` are refused so.
+const REFUSED: &[(u32, Terms, i128, Option<LinRefusal>)] = &[
+    // terms
+    (
         0,
-        &two(alloc, a, x, b, y)?,
+        &[(1, 1), (0, 2)],
         LARGEST_RHS + 1,
-        Some(LinRefusal::BadTerm(place)),
-    )
-}
+        Some(LinRefusal::BadTerm(1)),
+    ),
+    (
+        0,
+        &[(1, 1), (-1, 1)],
+        LARGEST_RHS + 1,
+        Some(LinRefusal::BadTerm(1)),
+    ),
+    (
+        0,
+        &[(1, 2), (1, 1)],
+        LARGEST_RHS + 1,
+        Some(LinRefusal::BadTerm(1)),
+    ),
+    (
+        0,
+        &[(0, 2), (1, 1)],
+        LARGEST_RHS + 1,
+        Some(LinRefusal::BadTerm(0)),
+    ),
+    (
+        0,
+        &[(LARGEST + 1, 1), (1, 2)],
+        LARGEST_RHS + 1,
+        Some(LinRefusal::BadTerm(0)),
+    ),
+    (
+        0,
+        &[(LARGEST, 1), (-LARGEST - 1, 2)],
+        LARGEST_RHS + 1,
+        Some(LinRefusal::BadTerm(1)),
+    ),
+    // right sides, then conditions
+    (0, LARGE, LARGEST_RHS, None),
+    (3, LARGE, -LARGEST_RHS, None),
+    (0, LARGE, LARGEST_RHS + 1, Some(LinRefusal::BadRhs)),
+    (1, LARGE, -LARGEST_RHS - 1, Some(LinRefusal::BadRhs)),
+    (1, LARGE, 0, Some(LinRefusal::BadCondition)),
+    (2, LARGE, 0, Some(LinRefusal::BadCondition)),
+];
 
-#[test]
-fn terms_that_are_refused(rt: HostRuntime) -> Result<(), Fail> {
-    for (a, x, b, y, place) in [
-        (1, 1, 0, 2, 1),
-        (1, 1, -1, 1, 1),
-        (1, 2, 1, 1, 1),
-        (0, 2, 1, 1, 0),
-        (LARGEST + 1, 1, 1, 2, 0),
-        (LARGEST, 1, -LARGEST - 1, 2, 1),
-    ] {
-        assert!(rt; bad_term(rt.alloc(), a, x, b, y, place)?, "{a} {x} {b} {y}");
+fn multiples(alloc: Global, terms: &[(i64, u32)]) -> Result<Vec<(i64, VarId)>, Memory> {
+    let mut multiples = Vec::new(alloc);
+    for (multiple, place) in terms {
+        multiples.push((*multiple, VarId(*place)))?;
     }
-    Ok(())
+    Ok(multiples)
 }
 
-fn answer(
-    alloc: Global,
-    cond: u32,
-    rhs: i128,
-    refusal: Option<LinRefusal>,
-) -> Result<bool, Memory> {
-    refused(
-        alloc,
-        cond,
-        &two(alloc, LARGEST, 1, -LARGEST, 2)?,
-        rhs,
-        refusal,
-    )
-}
-
-#[test]
-fn right_sides_and_conditions_that_are_refused(rt: HostRuntime) -> Result<(), Fail> {
-    let alloc = rt.alloc();
-    assert!(rt; answer(alloc, 0, LARGEST_RHS, None)?);
-    assert!(rt; answer(alloc, 3, -LARGEST_RHS, None)?);
-    assert!(rt; answer(alloc, 0, LARGEST_RHS + 1, Some(LinRefusal::BadRhs))?);
-    assert!(rt; answer(alloc, 1, -LARGEST_RHS - 1, Some(LinRefusal::BadRhs))?);
-    assert!(rt; answer(alloc, 1, 0, Some(LinRefusal::BadCondition))?);
-    assert!(rt; answer(alloc, 2, 0, Some(LinRefusal::BadCondition))?);
-    Ok(())
-}
-
-// Whether 2x - 3y at most the number clashes under [b >= 1].
 fn at_most(
     alloc: Global,
-    b: (i64, i64),
-    x: (i64, i64),
-    y: (i64, i64),
+    cond: Option<Used>,
+    terms: &[(i64, u32)],
     rhs: i128,
-) -> Result<Option<bool>, Fail> {
-    let rule = LinLe::new(
-        Atom::new(VarId(0), Op::Ge, 1),
-        two(alloc, 2, 1, -3, 2)?,
-        rhs,
-    )?;
-    Ok(clash_at(&rule, &state_of(alloc, &[b, x, y])?)?)
+) -> Result<Result<LinLe, LinRefusal>, Memory> {
+    Ok(LinLe::new(condition_of(cond)?, multiples(alloc, terms)?, rhs))
 }
 
-#[test]
-fn sums_of_least_values(rt: HostRuntime) -> Result<(), Fail> {
-    for (b, x, y, rhs, wanted) in [
-        ((1, 1), (5, 9), (1, 4), -3, true),
-        ((1, 1), (5, 9), (1, 4), -2, false),
-        ((0, 1), (5, 9), (1, 4), -3, false),
-        ((0, 0), (5, 9), (1, 4), -3, false),
-        ((1, 1), (6, 9), (1, 4), -1, true),
-        ((0, 0), (5, 9), (3, 2), 100, true),
-    ] {
-        assert_eq!(rt;
-            at_most(rt.alloc(), b, x, y, rhs)?,
-            Some(wanted),
-            "at {rhs}"
-        );
-    }
-    Ok(())
-}
-
-// Whether 2x - 3y other than the number clashes under [b >= 1].
-fn differs(
+fn other(
     alloc: Global,
-    b: (i64, i64),
-    x: (i64, i64),
-    y: (i64, i64),
+    cond: Option<Used>,
+    terms: &[(i64, u32)],
     rhs: i128,
-) -> Result<Option<bool>, Fail> {
-    let rule = LinNe::new(
-        Atom::new(VarId(0), Op::Ge, 1),
-        two(alloc, 2, 1, -3, 2)?,
-        rhs,
-    )?;
-    Ok(clash_at(&rule, &state_of(alloc, &[b, x, y])?)?)
+) -> Result<Result<LinNe, LinRefusal>, Memory> {
+    Ok(LinNe::new(condition_of(cond)?, multiples(alloc, terms)?, rhs))
 }
 
 #[test]
-fn sums_of_only_values(rt: HostRuntime) -> Result<(), Fail> {
-    for (b, x, y, rhs, wanted) in [
-        ((1, 1), (5, 5), (2, 2), 4, true),
-        ((1, 1), (5, 5), (2, 2), 3, false),
-        ((1, 1), (5, 5), (2, 3), 4, false),
-        ((1, 1), (5, 6), (2, 2), 4, false),
-        ((0, 1), (5, 5), (2, 2), 4, false),
-        ((0, 0), (5, 5), (2, 2), 4, false),
-        ((1, 2), (5, 5), (2, 2), 4, true),
-        ((0, 0), (5, 5), (3, 2), 100, true),
-    ] {
-        assert_eq!(rt;
-            differs(rt.alloc(), b, x, y, rhs)?,
-            Some(wanted),
-            "at {rhs}"
-        );
+fn refusals(rt: HostRuntime) -> Result<(), Fail> {
+    for (var, terms, rhs, refusal) in REFUSED {
+        let cond = Some((*var, Op::Ge, 1));
+        let le = at_most(rt.alloc(), cond, *terms, *rhs)?.err();
+        assert_eq!(rt; le, *refusal, "{terms:?} {rhs}");
+        let ne = other(rt.alloc(), cond, *terms, *rhs)?.err();
+        assert_eq!(rt; ne, *refusal, "{terms:?} {rhs}");
     }
     Ok(())
 }
 
-// The largest sum that is at most the number at two variables' least values of +-10^9.
-fn large(alloc: Global, rhs: i128) -> Result<Option<bool>, Fail> {
-    let rule = LinLe::new(None, two(alloc, LARGEST, 1, -LARGEST, 2)?, rhs)?;
-    let state = state_of(alloc, &[(0, 1), (-BOUND, 1 - BOUND), (BOUND - 1, BOUND)])?;
-    Ok(clash_at(&rule, &state)?)
-}
+const LARGE: Terms = &[(LARGEST, 1), (-LARGEST, 2)];
 
-#[test]
-fn large_sums(rt: HostRuntime) -> Result<(), Fail> {
-    let sum: i128 = -20_000_000_000_000_000_000_000_000;
-    assert_eq!(rt; large(rt.alloc(), sum)?, Some(false));
-    assert_eq!(rt; large(rt.alloc(), sum - 1)?, Some(true));
-    assert_eq!(rt; large(rt.alloc(), LARGEST_RHS)?, Some(false));
-    assert_eq!(rt; large(rt.alloc(), -LARGEST_RHS)?, Some(true));
-    Ok(())
-}
+/// 2x - 3y, of variables 1 and 2.
+const TWO: Terms = &[(2, 1), (-3, 2)];
 
-// Whether the empty sum clashes, as one of at most the number and as one other than it.
-fn empty(alloc: Global, rhs: i128) -> Result<(Option<bool>, Option<bool>), Fail> {
-    let state = state_of(alloc, &[(0, 1), (5, 9), (1, 4)])?;
-    let at_most = LinLe::new(None, Vec::new(alloc), rhs)?;
-    let differs = LinNe::new(None, Vec::new(alloc), rhs)?;
-    Ok((clash_at(&at_most, &state)?, clash_at(&differs, &state)?))
-}
+/// 3x - 2y, of variables 0 and 1.
+const SUM: Terms = &[(3, 0), (-2, 1)];
 
-#[test]
-fn sums_without_terms(rt: HostRuntime) -> Result<(), Fail> {
-    assert_eq!(rt; empty(rt.alloc(), -1)?, (Some(true), Some(false)));
-    assert_eq!(rt; empty(rt.alloc(), 0)?, (Some(false), Some(true)));
-    assert_eq!(rt; empty(rt.alloc(), 1)?, (Some(false), Some(false)));
-    Ok(())
-}
+const ONE: Terms = &[(1, 0)];
 
-// Whether x at most the number clashes, where x is 8 or 9 and was 5.
-fn jumped(alloc: Global, rhs: i128) -> Result<Option<bool>, Fail> {
-    let mut set = Dom::of(alloc, &[(5, 5), (8, 9)])?;
-    if let Some(atom) = Atom::new(VarId(0), Op::Ne, 5) {
-        let _ = set.exclude(atom);
+const MINUS: Terms = &[(-1, 0)];
+
+const ON: Option<Used> = Some((0, Op::Ge, 1));
+
+/// Two variables near the ends of all domains.
+const FAR: Place = (&[(0, 1), (-BOUND, 1 - BOUND), (BOUND - 1, BOUND)], &[], &[]);
+
+const LARGE_SUM: i128 = -20_000_000_000_000_000_000_000_000;
+
+/// A sum, a place, and whether it clashes there.
+const TESTS: &[(Linear, Place, Answer)] = &[
+    // the least values
+    (
+        AtMost(ON, TWO, -3),
+        (&[(1, 1), (5, 9), (1, 4)], &[], &[]),
+        Test(true),
+    ),
+    (
+        AtMost(ON, TWO, -2),
+        (&[(1, 1), (5, 9), (1, 4)], &[], &[]),
+        Test(false),
+    ),
+    (
+        AtMost(ON, TWO, -3),
+        (&[(0, 1), (5, 9), (1, 4)], &[], &[]),
+        Test(false),
+    ),
+    (
+        AtMost(ON, TWO, -3),
+        (&[(0, 0), (5, 9), (1, 4)], &[], &[]),
+        Test(false),
+    ),
+    (
+        AtMost(ON, TWO, -1),
+        (&[(1, 1), (6, 9), (1, 4)], &[], &[]),
+        Test(true),
+    ),
+    (
+        AtMost(ON, TWO, 100),
+        (&[(0, 0), (5, 9), (3, 2)], &[], &[]),
+        Test(true),
+    ),
+    // the only values
+    (
+        Other(ON, TWO, 4),
+        (&[(1, 1), (5, 5), (2, 2)], &[], &[]),
+        Test(true),
+    ),
+    (
+        Other(ON, TWO, 3),
+        (&[(1, 1), (5, 5), (2, 2)], &[], &[]),
+        Test(false),
+    ),
+    (
+        Other(ON, TWO, 4),
+        (&[(1, 1), (5, 5), (2, 3)], &[], &[]),
+        Test(false),
+    ),
+    (
+        Other(ON, TWO, 4),
+        (&[(1, 1), (5, 6), (2, 2)], &[], &[]),
+        Test(false),
+    ),
+    (
+        Other(ON, TWO, 4),
+        (&[(0, 1), (5, 5), (2, 2)], &[], &[]),
+        Test(false),
+    ),
+    (
+        Other(ON, TWO, 4),
+        (&[(0, 0), (5, 5), (2, 2)], &[], &[]),
+        Test(false),
+    ),
+    (
+        Other(ON, TWO, 4),
+        (&[(1, 2), (5, 5), (2, 2)], &[], &[]),
+        Test(true),
+    ),
+    (
+        Other(ON, TWO, 100),
+        (&[(0, 0), (5, 5), (3, 2)], &[], &[]),
+        Test(true),
+    ),
+    // large sums
+    (AtMost(None, LARGE, LARGE_SUM), FAR, Test(false)),
+    (AtMost(None, LARGE, LARGE_SUM - 1), FAR, Test(true)),
+    (AtMost(None, LARGE, LARGEST_RHS), FAR, Test(false)),
+    (AtMost(None, LARGE, -LARGEST_RHS), FAR, Test(true)),
+    // no terms
+    (AtMost(None, &[], -1), FAR, Test(true)),
+    (AtMost(None, &[], 0), FAR, Test(false)),
+    (AtMost(None, &[], 1), FAR, Test(false)),
+    (Other(None, &[], -1), FAR, Test(false)),
+    (Other(None, &[], 0), FAR, Test(true)),
+    (Other(None, &[], 1), FAR, Test(false)),
+    // a hole that is jumped over: 8 or 9, and 5 before
+    (
+        AtMost(None, ONE, 7),
+        (
+            &[(5, 9)],
+            &[(0, Op::Ne, 6), (0, Op::Ne, 7)],
+            &[(0, Op::Ne, 5)],
+        ),
+        Test(true),
+    ),
+    (
+        AtMost(None, ONE, 8),
+        (
+            &[(5, 9)],
+            &[(0, Op::Ne, 6), (0, Op::Ne, 7)],
+            &[(0, Op::Ne, 5)],
+        ),
+        Test(false),
+    ),
+];
+
+const WIDE: (i64, i64) = (-BOUND, BOUND);
+
+/// What leaves 0, 2 and 5 of 0 to 5.
+const GAPS: &[Used] = &[(0, Op::Ne, 1), (0, Op::Ne, 3), (0, Op::Ne, 4)];
+
+/// A sum, a place, and its turn there.
+const TURNS: &[(Linear, Place, Answer)] = &[
+    // quotients are rounded to the bound
+    (
+        AtMost(None, SUM, 5),
+        (&[(0, 10), (0, 3)], &[], &[]),
+        Turn((0, Op::Le, 3)),
+    ),
+    (
+        AtMost(None, SUM, 4),
+        (&[(3, 3), (0, 3)], &[], &[]),
+        Turn((1, Op::Ge, 3)),
+    ),
+    (
+        AtMost(None, SUM, 17),
+        (&[WIDE, (0, 0)], &[], &[]),
+        Turn((0, Op::Le, 5)),
+    ),
+    (
+        AtMost(None, SUM, -17),
+        (&[WIDE, (0, 0)], &[], &[]),
+        Turn((0, Op::Le, -6)),
+    ),
+    (
+        AtMost(None, SUM, -11),
+        (&[(0, 0), WIDE], &[], &[]),
+        Turn((1, Op::Ge, 6)),
+    ),
+    (AtMost(None, SUM, 9), (&[(3, 3), (0, 3)], &[], &[]), Quiet),
+    // one value is taken out
+    (
+        Other(None, SUM, 7),
+        (&[(0, 9), (1, 1)], &[], &[]),
+        Turn((0, Op::Ne, 3)),
+    ),
+    (
+        Other(None, SUM, -1_999_999_991),
+        (&[(3, 3), WIDE], &[], &[]),
+        Turn((1, Op::Le, 999_999_999)),
+    ),
+    (Other(None, SUM, 8), (&[(0, 9), (1, 1)], &[], &[]), Quiet),
+    (Other(None, SUM, 0), (&[(0, 1), (0, 1)], &[], &[]), Quiet),
+    // a condition that has to fail gets a bound
+    (
+        AtMost(Some((0, Op::Ge, 2)), &[(-2, 1)], -3),
+        (&[(0, 4), (1, 1)], &[], &[]),
+        Turn((0, Op::Le, 1)),
+    ),
+    (
+        AtMost(Some((0, Op::Le, 2)), &[(-2, 1)], -3),
+        (&[(0, 4), (1, 1)], &[], &[]),
+        Turn((0, Op::Ge, 3)),
+    ),
+    (
+        AtMost(Some((0, Op::Eq, 4)), &[(-2, 1)], -3),
+        (&[(0, 4), (1, 1)], &[], &[]),
+        Turn((0, Op::Le, 3)),
+    ),
+    (
+        AtMost(Some((0, Op::Ne, 2)), &[(-2, 1)], -3),
+        (&[(0, 4), (1, 1)], &[], &[]),
+        Turn((0, Op::Ge, 2)),
+    ),
+    (
+        AtMost(Some((0, Op::Eq, 2)), &[(-2, 1)], -3),
+        (&[(0, 4), (1, 1)], &[], &[]),
+        Quiet,
+    ),
+    // bounds land on values
+    (
+        AtMost(None, ONE, 4),
+        (&[(0, 5)], GAPS, &[]),
+        Gives((0, Op::Le, 2), &[]),
+    ),
+    (
+        AtMost(None, ONE, 4),
+        (&[(0, 5)], GAPS, &[(0, Op::Ge, 3)]),
+        Clashes(&[(0, Op::Ge, 5)]),
+    ),
+    (
+        AtMost(None, ONE, 4),
+        (&[(0, 5)], GAPS, &[(0, Op::Le, 2)]),
+        Quiet,
+    ),
+    (
+        AtMost(None, MINUS, -1),
+        (&[(0, 5)], GAPS, &[(0, Op::Le, 2)]),
+        Gives((0, Op::Ge, 2), &[]),
+    ),
+    // bounds come before holes
+    (
+        Other(None, ONE, 0),
+        (&[(0, 5)], GAPS, &[]),
+        Gives((0, Op::Ge, 2), &[]),
+    ),
+    (
+        Other(None, ONE, 2),
+        (&[(0, 5)], GAPS, &[]),
+        Gives((0, Op::Ne, 2), &[]),
+    ),
+    (
+        Other(None, ONE, 2),
+        (&[(0, 5)], GAPS, &[(0, Op::Ge, 2), (0, Op::Le, 2)]),
+        Clashes(&[(0, Op::Ge, 2), (0, Op::Le, 2)]),
+    ),
+    (
+        Other(None, ONE, 5),
+        (&[(0, 5)], GAPS, &[]),
+        Gives((0, Op::Le, 2), &[]),
+    ),
+    // conditions and holes explain
+    (
+        Other(Some((2, Op::Le, 0)), &[(1, 0), (1, 1)], 2),
+        (&[(1, 1), (0, 2), (0, 1)], &[], &[(2, Op::Le, 0)]),
+        Gives((1, Op::Ne, 1), &[(2, Op::Le, 0)]),
+    ),
+    (
+        AtMost(None, &[(-1, 1)], -1),
+        (
+            &[(1, 1), (0, 2), (0, 1)],
+            &[],
+            &[(2, Op::Le, 0), (1, Op::Ne, 1)],
+        ),
+        Gives((1, Op::Ge, 2), &[(1, Op::Ne, 1)]),
+    ),
+];
+
+/// Whether the sum answers so at the place.
+fn answers_so(
+    alloc: Global,
+    linear: &Linear,
+    place: &Place,
+    answer: Answer,
+) -> Result<bool, Memory> {
+    match *linear {
+        AtMost(cond, terms, rhs) => match at_most(alloc, cond, terms, rhs)? {
+            Ok(rule) => answers(alloc, &rule, place, answer),
+            Err(_) => Ok(false),
+        },
+        Other(cond, terms, rhs) => match other(alloc, cond, terms, rhs)? {
+            Ok(rule) => answers(alloc, &rule, place, answer),
+            Err(_) => Ok(false),
+        },
     }
-    let mut sets = Vec::new(alloc);
-    sets.push(set)?;
-    let mut terms = Vec::new(alloc);
-    terms.push((1, VarId(0)))?;
-    let rule = LinLe::new(None, terms, rhs)?;
-    Ok(clash_at(&rule, &State::new(sets))?)
 }
 
 #[test]
-fn a_hole_that_is_jumped_over(rt: HostRuntime) -> Result<(), Fail> {
-    assert_eq!(rt; jumped(rt.alloc(), 7)?, Some(true));
-    assert_eq!(rt; jumped(rt.alloc(), 8)?, Some(false));
-    Ok(())
-}
-
-#[test]
-fn what_is_put_in_is_shown(rt: HostRuntime) -> Result<(), Fail> {
-    let cond = Atom::new(VarId(1), Op::Ge, 1);
-    let at_most = LinLe::new(cond, two(rt.alloc(), 1, 0, 2, 2)?, 7)?;
-    assert_eq!(rt; at_most.cond(), cond);
-    assert_eq!(rt; at_most.terms().len(), 2);
-    assert_eq!(rt; at_most.rhs(), 7);
-    let differs = LinNe::new(None, two(rt.alloc(), 1, 0, 2, 2)?, 7)?;
-    assert_eq!(rt; differs.cond(), None);
-    assert_eq!(rt; differs.terms().len(), 2);
-    assert_eq!(rt; differs.rhs(), 7);
-    Ok(())
-}
-
-#[test]
-fn scopes(rt: HostRuntime) -> Result<(), Fail> {
-    for (cond, x, y) in [(0, 1, 2), (1, 0, 2), (2, 0, 1)] {
-        let terms = two(rt.alloc(), 1, x, 1, y)?;
-        let rule = LinNe::new(Atom::new(VarId(cond), Op::Ge, 1), terms, 0)?;
-        assert!(rt; is_counted(&rule, 3), "{cond}");
+fn tests_turns_and_explanations(rt: HostRuntime) -> Result<(), Fail> {
+    for rows in [TESTS, TURNS] {
+        for (linear, place, answer) in rows {
+            assert!(rt;
+                answers_so(rt.alloc(), linear, place, *answer)?,
+                "{linear:?} {place:?} {answer:?}"
+            );
+        }
     }
-    let rule = LinLe::new(None, two(rt.alloc(), 1, 0, 1, 1)?, 0)?;
-    assert!(rt; is_counted(&rule, 2));
     Ok(())
 }
 
 fn crosses_threads<T: Send + Sync>(_value: &T) {}
 
 #[test]
-fn rules_cross_threads(rt: HostRuntime) -> Result<(), Fail> {
-    let at_most = LinLe::new(None, Vec::new(rt.alloc()), 7)?;
-    crosses_threads(&at_most);
-    let differs = LinNe::new(None, Vec::new(rt.alloc()), 7)?;
-    crosses_threads(&differs);
+fn shapes(rt: HostRuntime) -> Result<(), Fail> {
+    let cond = Some((1, Op::Ge, 1));
+    let terms = [(1, 0), (2, 2)];
+    let le = at_most(rt.alloc(), cond, &terms, 7)??;
+    assert_eq!(rt; le.cond(), condition_of(cond)?);
+    assert_eq!(rt; (le.terms().len(), le.rhs()), (2, 7));
+    assert!(rt; is_counted(&le, 3));
+    crosses_threads(&le);
+    let ne = other(rt.alloc(), None, &terms, 7)??;
+    assert_eq!(rt; ne.cond(), None);
+    assert_eq!(rt; (ne.terms().len(), ne.rhs()), (2, 7));
+    crosses_threads(&ne);
+    for (cond, x, y) in [(0, 1, 2), (2, 0, 1)] {
+        let terms = [(1, x), (1, y)];
+        let rule = other(rt.alloc(), Some((cond, Op::Ge, 1)), &terms, 0)??;
+        assert!(rt; is_counted(&rule, 3), "{cond}");
+    }
+    let rule = at_most(rt.alloc(), None, &[(1, 0), (1, 1)], 0)??;
+    assert!(rt; is_counted(&rule, 2));
     Ok(())
 }
