@@ -11,8 +11,6 @@ mod nogood;
 mod refusal;
 mod start;
 mod steps;
-#[cfg(test)]
-mod tests;
 
 pub use checker::Checker;
 pub use fault::CheckFault;

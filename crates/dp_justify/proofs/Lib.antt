@@ -4,7 +4,6 @@ pub mod TakenLaws
 pub mod StepLaws
 pub mod GoneLaws
 pub mod KeepLaws
-pub mod TestProblem
 pub mod RunSteps
 pub mod TrailSteps
 pub mod JustifyLaws

@@ -17,6 +17,3 @@ pub use kept::Kept;
 pub use laws::replay;
 pub use lists::{Atoms, KeptTurns, Places};
 pub use piece::Piece;
-
-#[cfg(test)]
-mod tests;

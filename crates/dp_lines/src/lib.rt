@@ -13,8 +13,6 @@ mod readback;
 mod reader;
 mod refusal;
 mod step;
-#[cfg(test)]
-mod tests;
 mod text;
 mod words;
 

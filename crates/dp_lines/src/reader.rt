@@ -191,14 +191,6 @@ impl Reader {
         self.clear = self.held.len();
     }
 
-    /// How many bytes are held.
-    #[cfg(test)]
-    pub fn kept(&self) -> usize
-        ensures { result ≡ length self.now.held }
-    {
-        self.held.len() - self.start
-    }
-
     /// The number of lines, blank ones included, that were given or passed over.
     pub fn lines_seen(&self) -> u64
         ensures { result ≡ self.now.count }

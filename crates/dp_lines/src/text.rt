@@ -227,6 +227,3 @@ fn push_number(text: &mut Vec<u8>, number: u64) -> Result<(), Memory>
     text.extend_from_slice(field.as_bytes())?;
     Ok(())
 }
-
-#[cfg(test)]
-mod tests;

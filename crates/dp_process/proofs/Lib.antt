@@ -17,4 +17,3 @@ pub mod ConclusionLaws
 pub mod PassLaws
 pub mod AcceptLaws
 pub mod RightLaws
-pub mod TestProblem

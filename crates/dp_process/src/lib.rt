@@ -14,6 +14,3 @@ mod write;
 pub use laws::log_passes;
 pub use processing::{Processed, process};
 pub use refusal::ProcessRefusal;
-
-#[cfg(test)]
-mod tests;

@@ -11,8 +11,6 @@ mod pieces;
 mod read;
 mod refusal;
 mod scaffold;
-#[cfg(test)]
-mod tests;
 
 pub use answer::ScaffoldAnswer;
 pub use fault::GatherFault;

@@ -1,4 +1,3 @@
 pub mod Answers
 pub mod Literals
 pub mod Taking
-mod Pieced

@@ -7,8 +7,6 @@ mod pieces;
 mod show;
 mod shown;
 mod spell;
-#[cfg(test)]
-mod tests;
 
 pub use pieces::Showing;
 pub use show::show_log;

@@ -6,4 +6,3 @@ pub mod DescentSteps
 pub mod WritingSteps
 pub mod GoalSteps
 pub mod RoundSteps
-pub mod TestProblem

@@ -14,6 +14,3 @@ mod writing;
 
 pub use outcome::{Outcome, SolveFault};
 pub use solving::{solve, solve_cut};
-
-#[cfg(test)]
-mod tests;

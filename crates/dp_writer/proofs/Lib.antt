@@ -5,6 +5,5 @@ pub mod StepLemmas
 pub mod FirstLemmas
 pub mod WrittenLemmas
 pub mod ReadingLemmas
-pub mod TestProblem
 pub mod LogLemmas
 pub mod NameLemmas

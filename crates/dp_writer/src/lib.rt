@@ -9,6 +9,3 @@ mod writer;
 
 pub use laws::{literals, order};
 pub use writer::Writer;
-
-#[cfg(test)]
-mod tests;

@@ -9,6 +9,3 @@ mod proving;
 pub use laws::reread;
 pub use proof::Proof;
 pub use proving::prove_model;
-
-#[cfg(test)]
-mod tests;

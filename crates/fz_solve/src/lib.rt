@@ -6,6 +6,3 @@ mod solving;
 
 pub use printing::{outcome_status, outcome_text};
 pub use solving::solve_model;
-
-#[cfg(test)]
-mod tests;

@@ -1,6 +1,0 @@
-use Rattle.std.proofs.Common.{◌≡◌, false}
-use Rattle.dp_lines.specs.Readers.{total}
-use Rattle.dp_lines.proofs.tests.bytewise.Given as goal
-
-abbrev pub invariant-loop-byte : goal.invariant-loop-byte
-invariant-loop-byte l = (total l.reader ≡ l.byte-index) × (l.reader.ended ≡ false)

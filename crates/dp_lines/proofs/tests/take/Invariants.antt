@@ -1,6 +1,0 @@
-use Rattle.std.proofs.Common.{◌≡◌}
-use Rattle.dp_lines.specs.Readers.{total}
-use Rattle.dp_lines.proofs.tests.take.Given as goal
-
-abbrev pub invariant-loop-place : goal.invariant-loop-place
-invariant-loop-place l = (total l.reader ≡ total l.fn.reader) × (l.reader.ended ≡ l.fn.reader.ended)

@@ -1,6 +1,0 @@
-use Rattle.std.proofs.Common.{◌<◌}
-use Rattle.dp_base.specs.Lists.{Each}
-use Rattle.dp_process.proofs.tests.atoms_of.Given as goal
-
-abbrev pub invariant-loop-used : goal.invariant-loop-used
-invariant-loop-used l = Each (λ a. a.var < 6) l.atoms.items
