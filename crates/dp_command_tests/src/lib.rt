@@ -19,3 +19,5 @@ mod show_tests;
 mod solve_tests;
 #[cfg(test)]
 mod words_tests;
+#[cfg(test)]
+mod worked_tests;

@@ -145,3 +145,19 @@ fn nogoods_are_justified(rt: HostRuntime) -> Result<(), Fail> {
     }
     Ok(())
 }
+
+fn crosses_threads<T: Send + Sync>(_value: &T) {}
+
+#[test]
+fn problems_and_pieces_cross_threads(rt: HostRuntime) -> Result<(), Fail> {
+    let problem = problem_of(rt.alloc(), NONE)?;
+    crosses_threads(&problem);
+    let piece = justified_of(rt.alloc(), NONE, "c UNSAT\n", 0)?;
+    crosses_threads(&piece);
+    if problem.constraint_count() > 0 {
+        for part in problem.parts_of(0) {
+            crosses_threads(part);
+        }
+    }
+    Ok(())
+}

@@ -49,7 +49,12 @@ c UNSAT
 
 /// The problem of the text of a model.
 pub fn problem_of(alloc: Global, model: &str) -> Result<Problem, Memory> {
-    match read_model(alloc, model.as_bytes()) {
+    problem_of_bytes(alloc, model.as_bytes())
+}
+
+/// The same of its bytes.
+pub fn problem_of_bytes(alloc: Global, model: &[u8]) -> Result<Problem, Memory> {
+    match read_model(alloc, model) {
         Ok(model) => lower(alloc, &model),
         Err(_) => Err(Memory),
     }
