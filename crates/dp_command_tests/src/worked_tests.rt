@@ -42,7 +42,12 @@ const CHECKED: &[(&str, &[&str], u8, &str)] = &[
         "refused: NotImplied at line 2\ni 1 0 -1 c:1 l:initial_domain\n",
     ),
     (MINIMUM, &[LEAST, "c 1\n"], 0, "accepted: [obj >= 7]\n"),
-    (MINIMUM, &[LEAST, "a 2 [obj <= 6]\nc -2\n"], 0, "accepted: [obj >= 7]\n"),
+    (
+        MINIMUM,
+        &[LEAST, "a 2 [obj <= 6]\nc -2\n"],
+        0,
+        "accepted: [obj >= 7]\n",
+    ),
     (
         MINIMUM,
         &[LEAST, "a 2 [obj <= 7]\nc 2\n"],
