@@ -26,7 +26,7 @@ const GREATEST: &str =
 
 /// What a log brings: that its line of this number is refused, and each later one so too; that it has no conclusion,
 /// which is told of the line behind so many; or that it is accepted, with a bound that it concludes if any.
-#[derive(Clone, Copy, Debug)]
+#[derive(Clone, Copy)]
 enum Wanted {
     Refused(u64, Why),
     Unconcluded(u64),
@@ -236,7 +236,7 @@ const TAKEN: &[Row] = &[
 ];
 
 /// What a log brings: its first refusal, whether each later line is refused so too, and what is answered behind it.
-#[derive(Clone, Copy, Debug)]
+#[derive(Clone, Copy)]
 struct Course {
     refusal: Option<StepRefusal>,
     steady: bool,
@@ -309,13 +309,18 @@ fn is_wanted(course: &Course, wanted: Wanted) -> bool {
     }
 }
 
+/// Whether a log brings this.
+fn brings(alloc: Global, model: &str, log: &[u8], wanted: Wanted) -> Result<bool, Memory> {
+    let problem = problem_of(alloc, model)?;
+    let course = course_of(alloc, &problem, log, lines_of(wanted))?;
+    Ok(is_wanted(&course, wanted))
+}
+
 #[test]
 fn logs_are_checked(rt: HostRuntime) -> Result<(), Fail> {
     for rows in [REFUSED, TAKEN] {
         for (place, (model, log, wanted)) in rows.iter().enumerate() {
-            let problem = problem_of(rt.alloc(), *model)?;
-            let course = course_of(rt.alloc(), &problem, *log, lines_of(*wanted))?;
-            assert!(rt; is_wanted(&course, *wanted), "log {place}: {course:?}");
+            assert!(rt; brings(rt.alloc(), *model, *log, *wanted)?, "log {place}");
         }
     }
     Ok(())

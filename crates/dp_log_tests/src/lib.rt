@@ -15,3 +15,5 @@ mod readers;
 mod scaffold_tests;
 #[cfg(test)]
 mod show_tests;
+#[cfg(test)]
+mod spelling_tests;
