@@ -1,13 +1,15 @@
-ghost use Rattle.std.specs.Prelude.{IfOk};
+ghost use Rattle.std.specs.Prelude.{◌≤◌, IfOk};
 ghost use Rattle.dp_scaffold.specs.Scaffolds.{IsScaffoldOf};
 
 use crate::models::{LEAST, NONE, NONE_LOG, problem_of};
 use dp_base::Memory;
 use dp_parts::Problem;
+use dp_pool::Open;
 use dp_process::{ProcessRefusal, Processed, process};
 use dp_scaffold::{Scaffold, ScaffoldAnswer, read_scaffold};
 use std::alloc::Global;
 use std::test::Fail;
+use std::thread::Threads;
 
 /// What is wanted of a scaffold: its log, how many of its nogoods stand there and how many steps; or that the nogood
 /// at this place, on this line and with this number, does not follow.
@@ -95,11 +97,20 @@ pub fn scaffold_of(alloc: Global, problem: &Problem, text: &str) -> Result<Scaff
     }
 }
 
-/// What processing a scaffold answers.
-fn processed(alloc: Global, model: &str, text: &str) -> Result<Processed, ProcessRefusal> {
+/// What processing a scaffold by so many workers answers.
+fn processed<R: Threads + Sync>(
+    rt: &R,
+    alloc: Global,
+    model: &str,
+    text: &str,
+    workers: usize,
+) -> Result<Processed, ProcessRefusal>
+    requires some_workers { 1 ≤ workers }
+    requires few_workers { workers ≤ 64 }
+{
     let problem = problem_of(alloc, model)?;
     let scaffold = scaffold_of(alloc, &problem, text)?;
-    process(alloc, &problem, &scaffold)
+    process(rt, alloc, &problem, &scaffold, workers, &Open)
 }
 
 fn is_wanted(answer: &Result<Processed, ProcessRefusal>, wanted: Wanted) -> bool {
@@ -117,8 +128,13 @@ fn is_wanted(answer: &Result<Processed, ProcessRefusal>, wanted: Wanted) -> bool
 #[test]
 fn scaffolds_are_processed(rt: HostRuntime) -> Result<(), Fail> {
     for (name, model, text, wanted) in ROWS {
-        let answer = processed(rt.alloc(), *model, *text);
-        assert!(rt; is_wanted(&answer, *wanted), "{name}: {answer:?}");
+        for workers in [1, 2, 64] {
+            let answer = processed(&rt, rt.alloc(), *model, *text, workers);
+            assert!(rt;
+                is_wanted(&answer, *wanted),
+                "{name}, {workers} workers: {answer:?}"
+            );
+        }
     }
     Ok(())
 }

@@ -1,11 +1,15 @@
+ghost use Rattle.std.specs.Prelude.{◌≤◌};
+
 use crate::models::{DIFFERENT, MOST, NONE, TOUCHING, Used, is_atom};
 use dp_base::Memory;
 use dp_domain::{Op, Verdict};
 use dp_lower::lower;
+use dp_pool::Open;
 use fz_items::read_model;
 use fz_prove::{Proof, prove_model};
 use std::alloc::Global;
 use std::test::Fail;
+use std::thread::Threads;
 
 /// How proving ends: with a log that is accepted, of no bound or of this one; with a solution; or open.
 #[derive(Clone, Copy, Debug)]
@@ -49,12 +53,29 @@ const ROWS: &[(&str, &str, u64, &str, Wanted)] = &[
     ("open", DIFFERENT, 1, "=====UNKNOWN=====\n", Wanted::Unknown),
 ];
 
-/// Proves the model of a text.
-fn proved(alloc: Global, text: &str, conflicts: u64) -> Result<Proof, Memory> {
+/// Proves the model of a text by so many workers.
+fn proved<R: Threads + Sync>(
+    rt: &R,
+    alloc: Global,
+    text: &str,
+    conflicts: u64,
+    workers: usize,
+) -> Result<Proof, Memory>
+    requires some_workers { 1 ≤ workers }
+    requires few_workers { workers ≤ 64 }
+{
     match read_model(alloc, text.as_bytes()) {
         Ok(model) => {
             let problem = lower(alloc, &model)?;
-            prove_model(alloc, &model, &problem, conflicts.clamp(1, 1000))
+            prove_model(
+                rt,
+                alloc,
+                &model,
+                &problem,
+                conflicts.clamp(1, 1000),
+                workers,
+                &Open,
+            )
         }
         Err(_) => Err(Memory),
     }
@@ -83,8 +104,13 @@ fn is_wanted(proof: &Proof, answer: &str, wanted: Wanted) -> bool {
 #[test]
 fn models_are_proved(rt: HostRuntime) -> Result<(), Fail> {
     for (name, model, conflicts, answer, wanted) in ROWS {
-        let proof = proved(rt.alloc(), *model, *conflicts)?;
-        assert!(rt; is_wanted(&proof, *answer, *wanted), "{name}: {proof:?}");
+        for workers in [1, 3] {
+            let proof = proved(&rt, rt.alloc(), *model, *conflicts, workers)?;
+            assert!(rt;
+                is_wanted(&proof, *answer, *wanted),
+                "{name}, {workers} workers: {proof:?}"
+            );
+        }
     }
     Ok(())
 }
