@@ -9,6 +9,7 @@ pub mod TestProblem
 pub mod TrailLaws
 pub mod LocalLaws
 pub mod WokenLaws
+pub mod DebtLaws
 pub mod RosterLaws
 pub mod StepLaws
 pub mod TrackedLaws

@@ -8,17 +8,19 @@ use Rattle.dp_parts.specs.Posed.{Posed}
 use Rattle.dp_parts.specs.Problems.{Csp, posed}
 use Rattle.dp_parts.specs.declared.part.Part.{Part}
 use Rattle.dp_engine.specs.declared.part_id.PartId.{PartId}
+use Rattle.dp_engine.specs.Debts.{History}
+use Rattle.dp_engine.specs.Rests.{Rest}
 use Rattle.dp_engine.specs.Engines.{Begins, KeepsParts, Propagation, Starts}
 use Rattle.dp_engine.specs.Indexes.{Indexed, IsEntered, IsOver}
 use Rattle.dp_engine.specs.Reaches.{joined}
 use Rattle.dp_engine.specs.Placed.{Placed, of_constraints, of_nogoods, turn_order}
 use Rattle.dp_engine.specs.Rosters.{Listed, all_placed, placed_at}
-use Rattle.dp_engine.specs.Woken.{IsIndex, IsTracked, Rest}
+use Rattle.dp_engine.specs.Woken.{IsIndex, IsTracked}
 use Rattle.dp_engine.proofs.ReachLaws.{joined-index}
 use Rattle.dp_engine.proofs.SearchSteps.{order-parts}
 use Rattle.dp_engine.proofs.StateSteps.{Each-take}
 use Rattle.dp_engine.proofs.StepLaws.{owed-few}
-use Rattle.dp_engine.proofs.TrackedLaws.{seen}
+use Rattle.dp_engine.proofs.TrackedLaws.{kept-none, seen}
 
 -- ---- lists and their first items
 
@@ -115,13 +117,13 @@ past-none (a ∷ all) (d ∷ c ∷ past) e h = (cc)
 
 -- ---- at another place
 
-pub tracked-seen : (p : Csp) (old now : Listed) (lists other : List (List ℕ)) (past : List Domains) (d : Domains) (ws vs : List Bool) (dead : Bool) (all later more : List (List Atomic)) (count : ℕ)
-    → IsTracked (seen p old.nogoods past d ws) old lists ws dead → length all < 2 ^ 32 → Each (AreOf p.initial) all → all ≡ old.nogoods ++ later → all ≡ now.nogoods ++ more
-    → all_placed now ≡ turn_order (posed p) now.nogoods → IsIndex (length p.initial) (turn_order (posed p) now.nogoods) other → count ≡ length (all_placed now) → length vs ≡ count
-    → ((k : ℕ) → get_or vs k true ≡ false → get_or ws k true ≡ false) → IsTracked (seen p now.nogoods past d vs) now other vs dead
-tracked-seen p old now lists other past d ws vs dead all later more count t few on eo en parts index ec ev kept =
+pub tracked-seen : (p : Csp) (old now : Listed) (lists other : List (List ℕ)) (past : List Domains) (d : Domains) (g h : History) (dead : Bool) (all later more : List (List Atomic)) (count : ℕ)
+    → IsTracked (seen p old.nogoods past d g.now) old lists g dead → length all < 2 ^ 32 → Each (AreOf p.initial) all → all ≡ old.nogoods ++ later → all ≡ now.nogoods ++ more
+    → all_placed now ≡ turn_order (posed p) now.nogoods → IsIndex (length p.initial) (turn_order (posed p) now.nogoods) other → count ≡ length (all_placed now) → length h.now ≡ count → h.lasting ≡ count → h.notes ≡ [] → past ≡ []
+    → ((k : ℕ) → get_or h.now k true ≡ false → get_or g.now k true ≡ false) → IsTracked (seen p now.nogoods past d h.now) now other h dead
+tracked-seen p old now lists other past d g h dead all later more count t few on eo en parts index ec ev el eh e0 kept =
     let first : now.nogoods ≡ take (length now.nogoods) all = sym (ap (take (length now.nogoods)) en ∙ take-front now.nogoods more) in
-    let whole : length vs ≡ length (turn_order (posed p) now.nogoods) = ev ∙ ec ∙ ap (λ (qs : List Placed). length qs) parts in
+    let whole : length h.now ≡ length (turn_order (posed p) now.nogoods) = ev ∙ ec ∙ ap (λ (qs : List Placed). length qs) parts in
     let fewer : length now.nogoods ≤ length all = subst (λ (ns : List (List Atomic)). length ns ≤ length all) (sym first) (take_fewer (length now.nogoods) all) in
     record {
       engine = record {
@@ -129,13 +131,17 @@ tracked-seen p old now lists other past d ws vs dead all later more count t few 
         few = omega arith;
         nogoods = subst (Each (AreOf p.initial)) (sym first) (Each-take (AreOf p.initial) (length now.nogoods) all on);
         states = t.engine.states;
-        owed = owed-few vs (turn_order (posed p) now.nogoods) whole;
+        owed = owed-few h.now (turn_order (posed p) now.nogoods) whole;
       };
       parts = parts;
       count = whole;
       index = index;
-      rest = rest_seen (turn_order (posed p) old.nogoods) (of_nogoods (length old.nogoods) later) (turn_order (posed p) now.nogoods) (of_nogoods (length now.nogoods) more) ws vs d
-          (sym (order-first (posed p) old.nogoods later all eo) ∙ order-first (posed p) now.nogoods more all en) t.count t.rest kept;
+      lasting = let l = ec ∙ ap (λ (qs : List Placed). length qs) parts in omega arith;
+      kept = record {
+        rest = rest_seen (turn_order (posed p) old.nogoods) (of_nogoods (length old.nogoods) later) (turn_order (posed p) now.nogoods) (of_nogoods (length now.nogoods) more) g.now h.now d
+            (sym (order-first (posed p) old.nogoods later all eo) ∙ order-first (posed p) now.nogoods more all en) t.count t.kept.rest kept;
+        earlier = kept-none (turn_order (posed p) now.nogoods) h.lasting h.notes [] h.now d past eh e0;
+      };
       start = t.start;
       known = t.known;
     }

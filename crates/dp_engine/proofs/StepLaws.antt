@@ -16,11 +16,12 @@ use Rattle.dp_engine.specs.declared.part_id.PartId.{PartId}
 use Rattle.dp_engine.specs.declared.turn.Turn.{Turn}
 use Rattle.dp_engine.specs.declared.turn.Turn.TheVariants.{Atom, Clash, Quiet, Empty}
 use Rattle.dp_engine.specs.Placed.{AreSound, IsSound, Placed}
+use Rattle.dp_engine.specs.Rests.{Rest}
 use Rattle.dp_engine.specs.Turns.{applied, atoms_of, first, told, told_or_quiet, turn_at}
-use Rattle.dp_engine.specs.Woken.{ArePlaces, IsCounted, IsFirstWoken, IsFound, IsIndex, IsSearched, Rest, entered, owed_of, places_on, touch, with_woken, woken_after}
+use Rattle.dp_engine.specs.Woken.{ArePlaces, IsCounted, IsFirstWoken, IsFound, IsIndex, IsSearched, entered, owed_of, places_on, touch, with_woken, woken_after}
 use Rattle.dp_engine.proofs.SearchSteps.{Each-at}
 use Rattle.dp_engine.proofs.TurnLaws.{sound-turn, taking, turn-alive}
-use Rattle.dp_engine.proofs.WokenLaws.{entered-length, index-push, length-places_on, owed-rest, places_on-below, rest-turn, with_woken-length, with_woken-owed}
+use Rattle.dp_engine.proofs.WokenLaws.{entered-length, in-index, index-push, is_of-there, length-places_on, owed-rest, places_on-below, with_woken-length, with_woken-one}
 
 item_same : {A : Type 0} (x y : A) → ◌≡◌ {A = Option A} (Some x) (Some y) → x ≡ y
 item_same x y e = cc
@@ -197,18 +198,6 @@ given_atom : (id i : PartId) (a : Atomic) (f : Found) → Atom i a ≡ told id f
 given_atom id i a Clashes e = (cc)
 given_atom id i a (Gives b) e = (cc)
 
--- the parts that are not woken after a turn have none at the next state
-pub rest-applied : (n : ℕ) (parts : List Placed) (lists : List (List ℕ)) (ws : List Bool) (d : Domains) (place : ℕ) (t : Turn) → AreSound n parts → IsIndex n parts lists → is_dead d ≡ false
-    → Each (λ (a : Atomic). a.var < n) (atoms_of t) → IsFound parts d ws place t → Rest parts ws d → Rest parts (woken_after ws lists place t) (applied d t)
-rest-applied n parts lists ws d place (Atom id a) sound index alive on found r =
-    let s : IsSound n found.part = Each-at (IsSound n) parts place found.part sound found.there in
-    let gives : turn_of found.part.face d ≡ Some (Gives a) = found.gives ∙ ap Some (given_atom found.part.id id a found.found found.told_so) in
-    let turn = subst (IsTurn found.part.face d) gives (sound-turn n found.part d s alive) in
-    rest-turn n parts lists ws d a place found.part index on.0 found.there turn.1.candidate.of_scope r
-rest-applied n parts lists ws d place (Clash id) sound index alive on found r = r
-rest-applied n parts lists ws d place Quiet sound index alive on found r = r
-rest-applied n parts lists ws d place Empty sound index alive on found r = r
-
 -- a turn's atom leaves each variable a value
 pub applied-alive : (n : ℕ) (parts : List Placed) (d : Domains) (t : Turn) → AreSound n parts → is_dead d ≡ false → t ≡ turn_at parts d → is_dead (applied d t) ≡ false
 applied-alive n parts d (Atom id a) sound alive e = turn-alive n parts d id a sound (sym e)
@@ -216,24 +205,27 @@ applied-alive n parts d (Clash id) sound alive e = alive
 applied-alive n parts d Quiet sound alive e = alive
 applied-alive n parts d Empty sound alive e = alive
 
-pub woken_after-length : (ws : List Bool) (lists : List (List ℕ)) (place : ℕ) (t : Turn) → length (woken_after ws lists place t) ≡ length ws
-woken_after-length ws lists place (Atom id a) = with_woken-length (set ws place false) (get_or lists a.var []) ∙ length-set ws place false
-woken_after-length ws lists place (Clash id) = refl
-woken_after-length ws lists place Quiet = refl
-woken_after-length ws lists place Empty = refl
+pub woken_after-length : (ws : List Bool) (lists : List (List ℕ)) (t : Turn) → length (woken_after ws lists t) ≡ length ws
+woken_after-length ws lists (Atom id a) = with_woken-length ws (get_or lists a.var [])
+woken_after-length ws lists (Clash id) = refl
+woken_after-length ws lists Quiet = refl
+woken_after-length ws lists Empty = refl
 
 -- the searches of a step and the parts that are woken after its turn are within the bound
-pub counted-after : (n : ℕ) (parts : List Placed) (lists : List (List ℕ)) (ws : List Bool) (d : Domains) (place : ℕ) (t : Turn) (before searches : ℕ) → IsIndex n parts lists
-    → Each (λ (a : Atomic). a.var < n) (atoms_of t) → IsFound parts d ws place t → searches + owed_of ws ≤ before + 1 → IsCounted parts before searches (owed_of (woken_after ws lists place t)) t
-counted-after n parts lists ws d place (Atom id a) before searches index on found h =
-    let less : owed_of (set ws place false) + 1 ≡ owed_of ws = owed-rest ws place found.awake in
-    let more : owed_of (with_woken (set ws place false) (get_or lists a.var [])) ≤ owed_of (set ws place false) + length (get_or lists a.var []) = with_woken-owed (set ws place false) (get_or lists a.var []) in
+pub counted-after : (n : ℕ) (parts : List Placed) (lists : List (List ℕ)) (ws : List Bool) (d : Domains) (place : ℕ) (t : Turn) (before searches : ℕ) → AreSound n parts → is_dead d ≡ false → IsIndex n parts lists
+    → Each (λ (a : Atomic). a.var < n) (atoms_of t) → IsFound parts d ws place t → searches + owed_of ws ≤ before + 1 → IsCounted parts before searches (owed_of (woken_after ws lists t)) t
+counted-after n parts lists ws d place (Atom id a) before searches sound alive index on found h =
+    let s : IsSound n found.part = Each-at (IsSound n) parts place found.part sound found.there in
+    let gives : turn_of found.part.face d ≡ Some (Gives a) = found.gives ∙ ap Some (given_atom found.part.id id a found.found found.told_so) in
+    let turn = subst (IsTurn found.part.face d) gives (sound-turn n found.part d s alive) in
+    let own = in-index n parts lists place a.var found.part index on.0 found.there (is_of-there a.var found.part.face.scope turn.1.candidate.of_scope) in
+    let more : owed_of (with_woken ws (get_or lists a.var [])) + 1 ≤ owed_of ws + length (get_or lists a.var []) = with_woken-one ws (get_or lists a.var []) place own found.awake in
     let count : length (get_or lists a.var []) ≡ touch a.var parts = ap (λ (ks : List ℕ). length ks) (index.each a.var on.0) ∙ length-places_on a.var 0 parts in
     omega arith
-counted-after n parts lists ws d place (Clash id) before searches index on found h =
+counted-after n parts lists ws d place (Clash id) before searches sound alive index on found h =
     let less : owed_of (set ws place false) + 1 ≡ owed_of ws = owed-rest ws place found.awake in (h, omega arith)
-counted-after n parts lists ws d place Quiet before searches index on found h = absurd (not_quiet found.part.id found.found found.told_so)
-counted-after n parts lists ws d place Empty before searches index on found h = absurd (not_empty found.part.id found.found found.told_so)
+counted-after n parts lists ws d place Quiet before searches sound alive index on found h = absurd (not_quiet found.part.id found.found found.told_so)
+counted-after n parts lists ws d place Empty before searches sound alive index on found h = absurd (not_empty found.part.id found.found found.told_so)
 
 -- no more are owed than there are parts
 pub owed-few : (ws : List Bool) (parts : List Placed) → length ws ≡ length parts → owed_of ws ≤ length parts
@@ -256,12 +248,12 @@ quiet-facts listed parts b d ws before now o e g f h =
     (subst (λ (c : Domains). (now ≤ before) × (Quiet ≡ turn_at listed c)) g (subst (IsSearched listed b ws before now) f h))
 
 -- after a turn
-pub counted-step : (n : ℕ) (parts : List Placed) (lists : List (List ℕ)) (ws vs : List Bool) (d : Domains) (place : ℕ) (t : Turn) (before old now : ℕ) → IsIndex n parts lists
-    → Each (λ (a : Atomic). a.var < n) (atoms_of t) → IsFound parts d ws place t → old ≤ now → now + owed_of ws ≤ (old + before) + 1 → vs ≡ woken_after ws lists place t
+pub counted-step : (n : ℕ) (parts : List Placed) (lists : List (List ℕ)) (ws vs : List Bool) (d : Domains) (place : ℕ) (t : Turn) (before old now : ℕ) → AreSound n parts → is_dead d ≡ false → IsIndex n parts lists
+    → Each (λ (a : Atomic). a.var < n) (atoms_of t) → IsFound parts d ws place t → old ≤ now → now + owed_of ws ≤ (old + before) + 1 → vs ≡ woken_after ws lists t
     → (searches : ℕ) × (now ≡ old + searches) × IsCounted parts before searches (owed_of vs) t
-counted-step n parts lists ws vs d place t before old now index on found more h e =
+counted-step n parts lists ws vs d place t before old now sound alive index on found more h e =
     let sum : (now - old) + owed_of ws ≤ before + 1 = omega arith in
-    (now - old, omega arith, subst (λ us. IsCounted parts before (now - old) (owed_of us) t) (sym e) (counted-after n parts lists ws d place t before (now - old) index on found sum))
+    (now - old, omega arith, subst (λ us. IsCounted parts before (now - old) (owed_of us) t) (sym e) (counted-after n parts lists ws d place t before (now - old) sound alive index on found sum))
 
 -- where all is quiet
 pub counted-quiet : (before old now owed : ℕ) → old ≤ now → now + owed ≤ old + before → (searches : ℕ) × (now ≡ old + searches) × (searches + owed ≤ before)

@@ -11,7 +11,8 @@ use Rattle.dp_domain.specs.States.{Domains, cut, cut_all, is_dead, values}
 use Rattle.dp_domain.specs.Turns.{turn_of}
 use Rattle.dp_domain.proofs.StateLaws.{length-cut, length-cut_all, values-cut_other}
 use Rattle.dp_engine.specs.Placed.{AreSound, IsSound, Placed}
-use Rattle.dp_engine.specs.Woken.{IsFollowed, IsIndex, Rest, entered, is_of, owed_of, places_on, touch, with_woken}
+use Rattle.dp_engine.specs.Rests.{Rest}
+use Rattle.dp_engine.specs.Woken.{IsIndex, entered, is_of, owed_of, places_on, touch, with_woken}
 use Rattle.dp_engine.proofs.LocalLaws.{Alike, turn-local}
 use Rattle.dp_engine.proofs.SearchSteps.{Each-at}
 
@@ -207,10 +208,10 @@ pushed_other [] (suc k) e = e
 pushed_other (w ∷ ws) zero e = e
 pushed_other (w ∷ ws) (suc k) e = pushed_other ws k e
 
-get_before : (parts : List Placed) (q : Placed) (k : ℕ) (p : Placed) → k < length parts → slice_get (parts ++ q ∷ []) k ≡ Some p → slice_get parts k ≡ Some p
-get_before [] q k p l e = absurd (omega arith)
-get_before (r ∷ parts) q zero p l e = e
-get_before (r ∷ parts) q (suc k) p l e = get_before parts q k p (omega arith) e
+pub get-before : (parts : List Placed) (q : Placed) (k : ℕ) (p : Placed) → k < length parts → slice_get (parts ++ q ∷ []) k ≡ Some p → slice_get parts k ≡ Some p
+get-before [] q k p l e = absurd (omega arith)
+get-before (r ∷ parts) q zero p l e = e
+get-before (r ∷ parts) q (suc k) p l e = get-before parts q k p (omega arith) e
 
 -- a part without a turn may rest
 pub rest-one : (n : ℕ) (parts : List Placed) (ws : List Bool) (d : Domains) (k : ℕ) → AreSound n parts → length d ≡ n → is_dead d ≡ false → Rest parts ws d
@@ -226,7 +227,7 @@ rest-none parts ws d all = λ k q e w. absurd (both_ways (get_or ws k true) w (a
 
 -- one part more, which is woken
 pub rest-push : (parts : List Placed) (ws : List Bool) (d : Domains) (q : Placed) → length ws ≡ length parts → Rest parts ws d → Rest (parts ++ q ∷ []) (ws ++ true ∷ []) d
-rest-push parts ws d q l r = λ k p e w. r k p (get_before parts q k p (subst (λ m. k < m) l (pushed_below ws k w)) e) (pushed_other ws k w)
+rest-push parts ws d q l r = λ k p e w. r k p (get-before parts q k p (subst (λ m. k < m) l (pushed_below ws k w)) e) (pushed_other ws k w)
 
 -- ---- after a change
 
@@ -240,52 +241,41 @@ rest-changed parts ws vs d e l r from = λ k q h w f m a g.
 agree_off : (scope : List ℕ) (d : Domains) (atoms : List Atomic) → ((a : Atomic) → Among a atoms → is_of a.var scope ≡ false) → AgreesOn scope d (cut_all d atoms)
 agree_off scope d atoms off = λ x m. sym (values-cut_all_other d atoms x (λ a k e. both_ways (is_of a.var scope) (off a k) (ap (λ y. is_of y scope) (sym e) ∙ is_of-there x scope m)))
 
+-- the same of one atom
+pub agree-off : (scope : List ℕ) (d : Domains) (a : Atomic) → is_of a.var scope ≡ false → AgreesOn scope d (cut d a)
+agree-off scope d a off = agree_off scope d (a ∷ []) (λ b m. elim m [ inl i ↦ ap (λ (c : Atomic). is_of c.var scope) i ∙ off | inr i ↦ absurd i ])
+
 -- the place of a part is among those of each of its variables
-in_index : (n : ℕ) (parts : List Placed) (lists : List (List ℕ)) (k x : ℕ) (q : Placed) → IsIndex n parts lists → x < n → slice_get parts k ≡ Some q → is_of x q.face.scope ≡ true → Among k (get_or lists x [])
-in_index n parts lists k x q index l e t =
+pub in-index : (n : ℕ) (parts : List Placed) (lists : List (List ℕ)) (k x : ℕ) (q : Placed) → IsIndex n parts lists → x < n → slice_get parts k ≡ Some q → is_of x q.face.scope ≡ true → Among k (get_or lists x [])
+in-index n parts lists k x q index l e t =
     subst (λ ks. Among k ks) (sym (index.each x l)) (subst (λ j. Among j (places_on x 0 parts)) (sym (from_zero k)) (places_on-there x 0 parts k q e t))
 
-off_index : (n : ℕ) (parts : List Placed) (lists : List (List ℕ)) (k x : ℕ) (q : Placed) → IsIndex n parts lists → x < n → slice_get parts k ≡ Some q → (Among k (get_or lists x []) → ⊥) → is_of x q.face.scope ≡ false
-off_index n parts lists k x q index l e out = false_from_ne_true (is_of x q.face.scope)
-    (λ t. out (in_index n parts lists k x q index l e t))
+pub off-index : (n : ℕ) (parts : List Placed) (lists : List (List ℕ)) (k x : ℕ) (q : Placed) → IsIndex n parts lists → x < n → slice_get parts k ≡ Some q → (Among k (get_or lists x []) → ⊥) → is_of x q.face.scope ≡ false
+off-index n parts lists k x q index l e out = false_from_ne_true (is_of x q.face.scope)
+    (λ t. out (in-index n parts lists k x q index l e t))
 
--- nothing changed
-pub followed-same : (lists : List (List ℕ)) (ws : List Bool) (d : Domains) → IsFollowed lists ws d ws d
-followed-same lists ws d = record { bits = refl; sets = refl; kept = λ k h. h; same = λ k x h m. refl }
+set_awake : (ws : List Bool) (k j : ℕ) → get_or ws j false ≡ true → get_or (set ws k true) j false ≡ true
+set_awake [] k j e = e
+set_awake (w ∷ ws) zero zero e = refl
+set_awake (w ∷ ws) zero (suc j) e = e
+set_awake (w ∷ ws) (suc k) zero e = e
+set_awake (w ∷ ws) (suc k) (suc j) e = set_awake ws k j e
 
-pub followed-then : (lists : List (List ℕ)) (us ws vs : List Bool) (c d e : Domains) → IsFollowed lists us c ws d → IsFollowed lists ws d vs e → IsFollowed lists us c vs e
-followed-then lists us ws vs c d e f g = record {
-  bits = g.bits ∙ f.bits;
-  sets = g.sets ∙ f.sets;
-  kept = λ k h. f.kept k (g.kept k h);
-  same = λ k x h m. g.same k x h m ∙ f.same k x (g.kept k h) m;
-}
+owed_again : (ws : List Bool) (k : ℕ) → get_or ws k false ≡ true → owed_of (set ws k true) ≡ owed_of ws
+owed_again [] k e = refl
+owed_again (true ∷ ws) zero e = refl
+owed_again (false ∷ ws) zero e = absurd (false≢true e)
+owed_again (true ∷ ws) (suc k) e = ap suc (owed_again ws k e)
+owed_again (false ∷ ws) (suc k) e = owed_again ws k e
 
--- one variable's set is changed and the parts on it are woken
-pub followed-change : (lists : List (List ℕ)) (ws vs : List Bool) (d e : Domains) (x : ℕ) → vs ≡ with_woken ws (get_or lists x []) → length e ≡ length d → ((y : ℕ) → (y ≡ x → ⊥) → values e y ≡ values d y) → IsFollowed lists ws d vs e
-followed-change lists ws vs d e x w l h =
-    subst (λ us. IsFollowed lists ws d us e) (sym w) (record {
-      bits = with_woken-length ws (get_or lists x []);
-      sets = l;
-      kept = λ k r. (with_woken-not ws (get_or lists x []) k r).0;
-      same = λ k y r m. h y (λ i. (with_woken-not ws (get_or lists x []) k r).1 (subst (λ z. Among k (get_or lists z [])) i m));
-    })
-
--- after changes, with the parts on each variable that was changed woken
-pub rest-followed : (n : ℕ) (parts : List Placed) (lists : List (List ℕ)) (ws vs : List Bool) (d e : Domains) → AreSound n parts → IsIndex n parts lists → IsFollowed lists ws d vs e → Rest parts ws d → Rest parts vs e
-rest-followed n parts lists ws vs d e sound index f r = rest-changed parts ws vs d e f.sets r (λ k q h w.
-    (f.kept k w, λ x m. sym (f.same k x w (in_index n parts lists k x q index (Each-among (λ y. y < n) q.face.scope (Each-at (IsSound n) parts k q sound h).covered x m) h (is_of-there x q.face.scope m)))))
-
--- after the atom that a part gave, which rests but is on the atom's variable
-pub rest-turn : (n : ℕ) (parts : List Placed) (lists : List (List ℕ)) (ws : List Bool) (d : Domains) (a : Atomic) (place : ℕ) (p : Placed) → IsIndex n parts lists → a.var < n
-    → slice_get parts place ≡ Some p → Among a.var p.face.scope → Rest parts ws d → Rest parts (with_woken (set ws place false) (get_or lists a.var [])) (cut d a)
-rest-turn n parts lists ws d a place p index on there of r = rest-changed parts ws (with_woken (set ws place false) (get_or lists a.var [])) d (cut d a) (length-cut d a) r (λ k q e w.
-    let t = with_woken-not (set ws place false) (get_or lists a.var []) k w in
-    let off : is_of a.var q.face.scope ≡ false = off_index n parts lists k a.var q index on e t.1 in
-    let agree : AgreesOn q.face.scope d (cut d a) = agree_off q.face.scope d (a ∷ []) (λ b m. elim m [ inl i ↦ ap (λ (c : Atomic). is_of c.var q.face.scope) i ∙ off | inr i ↦ absurd i ]) in
-    elim (set_rest ws place k t.0) [
-      | inl i ↦
-          let same : p ≡ q = some_same p q (sym there ∙ subst (λ j. slice_get parts j ≡ Some q) i e) in
-          absurd (both_ways (is_of a.var q.face.scope) off (ap (λ (r : Placed). is_of a.var r.face.scope) (sym same) ∙ is_of-there a.var p.face.scope of))
-      | inr o ↦ (o, agree)
-    ])
+-- one of the parts at the places was woken before
+pub with_woken-one : (ws : List Bool) (ks : List ℕ) (j : ℕ) → Among j ks → get_or ws j false ≡ true → owed_of (with_woken ws ks) + 1 ≤ owed_of ws + length ks
+with_woken-one ws [] j m e = absurd m
+with_woken-one ws (k ∷ ks) j (inl i) e =
+    let same : owed_of (set ws k true) ≡ owed_of ws = owed_again ws k (subst (λ n. get_or ws n false ≡ true) i e) in
+    let more = with_woken-owed (set ws k true) ks in
+    omega arith
+with_woken-one ws (k ∷ ks) j (inr m) e =
+    let more = with_woken-one (set ws k true) ks j m (set_awake ws k j e) in
+    let one = owed_set ws k in
+    omega arith

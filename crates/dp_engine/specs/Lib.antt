@@ -4,6 +4,8 @@ pub mod Runs
 pub mod Engines
 pub mod Rosters
 pub mod Trails
+pub mod Rests
+pub mod Debts
 pub mod Woken
 pub mod Reaches
 pub mod Indexes

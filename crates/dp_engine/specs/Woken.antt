@@ -3,7 +3,6 @@ use Rattle.std.specs.Prelude.{◌≡◌, ℕ, ◌+◌, ◌*◌, ◌/◌, ◌<◌
 use Rattle.std.specs.List.{list_any}
 use Rattle.dp_base.specs.Lists.{Among, Each}
 use Rattle.dp_domain.specs.Atoms.{Atomic}
-use Rattle.dp_domain.specs.Faces.{AgreesOn}
 use Rattle.dp_domain.specs.States.{Domains, is_dead, values}
 use Rattle.dp_domain.specs.Turns.{turn_of}
 use Rattle.dp_engine.specs.declared.turn.Turn.{Turn}
@@ -11,6 +10,8 @@ use Rattle.dp_engine.specs.declared.turn.Turn.TheVariants.{Atom, Clash, Quiet, E
 use Rattle.dp_domain.specs.declared.found.Found.{Found}
 use Rattle.dp_engine.specs.Engines.{Begins, IsEngine, Propagation, parts_of, states}
 use Rattle.dp_engine.specs.Placed.{Placed}
+use Rattle.dp_engine.specs.Debts.{History, IsKept}
+use Rattle.dp_engine.specs.Rests.{Rest}
 use Rattle.dp_engine.specs.Rosters.{Listed, all_placed}
 use Rattle.dp_engine.specs.Turns.{told, turn_at}
 
@@ -32,11 +33,6 @@ pub record IsIndex (n : ℕ) (parts : List Placed) (lists : List (List ℕ)) : T
   pub count : length lists ≡ n
   pub each : (x : ℕ) → x < n → get_or lists x [] ≡ places_on x 0 parts
 
--- each part that is not woken has no turn: at no state with values left does it have one where its variables have these sets
-abbrev pub Rest : List Placed → List Bool → Domains → Type 0
-Rest parts woken d = (k : ℕ) (q : Placed) → slice_get parts k ≡ Some q → get_or woken k true ≡ false
-    → (e : Domains) → length e ≡ length d → is_dead e ≡ false → AgreesOn q.face.scope d e → turn_of q.face e ≡ None
-
 -- these parts and more, which are woken
 abbrev pub IsGrown : List Bool → List Bool → Type 0
 IsGrown before now = (more : List Bool) × (now ≡ before ++ more) × Each (λ w. w ≡ true) more
@@ -45,13 +41,6 @@ IsGrown before now = (more : List Bool) × (now ≡ before ++ more) × Each (λ 
 abbrev pub with_woken : List Bool → List ℕ → List Bool
 with_woken woken [] = woken
 with_woken woken (k ∷ ks) = with_woken (slice_set woken k true) ks
-
--- from woken parts and a state to others: who is not woken now was not before, and the variables in whose lists it is keep their sets
-pub record IsFollowed (lists : List (List ℕ)) (before : List Bool) (d : Domains) (now : List Bool) (e : Domains) : Type 0 where
-  pub bits : length now ≡ length before
-  pub sets : length e ≡ length d
-  pub kept : (k : ℕ) → get_or now k true ≡ false → get_or before k true ≡ false
-  pub same : (k x : ℕ) → get_or now k true ≡ false → Among k (get_or lists x []) → values e x ≡ values d x
 
 -- the place is one more in the list of each variable of the scope
 abbrev pub entered : List (List ℕ) → ℕ → List ℕ → List (List ℕ)
@@ -70,12 +59,12 @@ IsCounted parts before searches now (Clash id) = (searches + now ≤ before + 1)
 IsCounted parts before searches now Quiet = searches + now ≤ before
 IsCounted parts before searches now Empty = searches + now ≤ before
 
--- the woken parts after a turn of the part at the place: one that gives an atom rests, and those on the atom's variable are woken
-abbrev pub woken_after : List Bool → List (List ℕ) → ℕ → Turn → List Bool
-woken_after woken lists place (Atom id a) = with_woken (slice_set woken place false) (get_or lists a.var [])
-woken_after woken lists place (Clash id) = woken
-woken_after woken lists place Quiet = woken
-woken_after woken lists place Empty = woken
+-- the woken parts after a turn: those on its atom's variable are woken
+abbrev pub woken_after : List Bool → List (List ℕ) → Turn → List Bool
+woken_after woken lists (Atom id a) = with_woken woken (get_or lists a.var [])
+woken_after woken lists (Clash id) = woken
+woken_after woken lists Quiet = woken
+woken_after woken lists Empty = woken
 
 -- the part at the place is woken and has this turn, which is the first of all
 pub record IsFound (parts : List Placed) (d : Domains) (woken : List Bool) (place : ℕ) (turn : Turn) : Type 0 where
@@ -97,13 +86,14 @@ abbrev pub ArePlaces : ℕ → List (List ℕ) → Type 0
 ArePlaces n lists = (x : ℕ) → Each (λ k. k < n) (get_or lists x [])
 
 -- what an engine keeps of its parts: they are those of the roster, the index has them by their variables, those that are not woken
--- have no turn, its states begin with the initial one, and it is known whether some variable has no value left
-pub record IsTracked (e : Propagation) (roster : Listed) (lists : List (List ℕ)) (woken : List Bool) (dead : Bool) : Type 0 where
+-- have no turn, now and at each earlier point, its states begin with the initial one, and it is known whether some variable has no value left
+pub record IsTracked (e : Propagation) (roster : Listed) (lists : List (List ℕ)) (h : History) (dead : Bool) : Type 0 where
   pub engine : IsEngine e
   pub parts : all_placed roster ≡ parts_of e
-  pub count : length woken ≡ length (parts_of e)
+  pub count : length h.now ≡ length (parts_of e)
+  pub lasting : h.lasting ≤ length (parts_of e)
   pub index : IsIndex (length e.problem.initial) (parts_of e) lists
-  pub rest : Rest (parts_of e) woken e.present
+  pub kept : IsKept (parts_of e) h (record { past = e.past; present = e.present })
   pub start : Begins (e.problem.initial ∷ []) (states e)
   pub known : dead ≡ is_dead e.present
 

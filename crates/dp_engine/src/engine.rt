@@ -1,19 +1,21 @@
 // The engine: turn after turn over a problem and nogoods, and back again.
 
-ghost use Rattle.std.specs.Prelude.{◌≡◌, ℕ, ◌^◌, ◌+◌, ◌-◌, ◌<◌, ◌≤◌, not, [], ◌∷◌, ◌++◌, length, take, IfOk, MatchResult, OnOk, OnErr};
-ghost use Rattle.dp_domain.specs.States.{AreOf, cut_all, is_dead};
+ghost use Rattle.std.specs.Prelude.{◌≡◌, ℕ, ◌^◌, ◌+◌, ◌-◌, ◌<◌, ◌≤◌, not, List, [], ◌∷◌, ◌++◌, length, get_or, take, IfOk, MatchResult, OnOk, OnErr};
+ghost use Rattle.dp_domain.specs.States.{AreOf, cut, cut_all, is_dead};
 ghost use Rattle.dp_engine.specs.Engines.{Begins, Extends, HaveCount, IsEngine, KeepsParts, KeepsStates, Starts, parts_of, states};
 ghost use Rattle.dp_engine.specs.Indexes.{IsOver};
 ghost use Rattle.dp_engine.specs.Turns.{IsTurnAt, applied, atoms_of, turn_at};
+ghost use Rattle.dp_engine.specs.Debts.{IsKept, IsTouched};
+ghost use Rattle.dp_engine.specs.Placed.{Placed};
 ghost use Rattle.dp_engine.specs.Trails.{all_of};
-ghost use Rattle.dp_engine.specs.Woken.{ArePlaces, IsCounted, IsFollowed, woken_after};
+ghost use Rattle.dp_engine.specs.Woken.{ArePlaces, IsCounted, IsIndex, with_woken, woken_after};
 
+use crate::debts::Debts;
 use crate::index::Index;
 use crate::reach::Reach;
 use crate::roster::Roster;
 use crate::search::first_turn;
 use crate::trail::Trail;
-use crate::woken::{Woken, resize};
 use crate::{Atom, Memory, Nogood, Problem, State, Steps, Turn};
 use std::alloc::Global;
 use std::marker::Model;
@@ -27,7 +29,7 @@ pub struct Engine<'i, 'p> {
     problem: &'p Problem,
     roster: Roster<'i, 'p>,
     occurrences: Reach<'i>,
-    woken: Woken,
+    debts: Debts,
     trail: Trail,
     dead: bool,
 }
@@ -38,9 +40,9 @@ impl<'i, 'p> Model for Engine<'i, 'p> {
 
     ghost Value = { Propagation };
 
-    ghost view = { λ e. record { problem = e.problem.now; nogoods = e.roster.nogoods; past = e.trail.past; present = e.trail.present; owed = owed_of e.woken } };
+    ghost view = { λ e. record { problem = e.problem.now; nogoods = e.roster.nogoods; past = e.trail.past; present = e.trail.present; owed = owed_of e.debts.now } };
 
-    ghost invariant = { λ e. IsTracked (record { problem = e.problem.now; nogoods = e.roster.nogoods; past = e.trail.past; present = e.trail.present; owed = owed_of e.woken }) e.roster e.occurrences e.woken e.dead };
+    ghost invariant = { λ e. IsTracked (record { problem = e.problem.now; nogoods = e.roster.nogoods; past = e.trail.past; present = e.trail.present; owed = owed_of e.debts.now }) e.roster e.occurrences e.debts e.dead };
 }
 
 impl<'i, 'p> Engine<'i, 'p> {
@@ -51,13 +53,13 @@ impl<'i, 'p> Engine<'i, 'p> {
         let problem = index.problem();
         let (roster, occurrences) = index.before(alloc, index.nogoods().len());
         let present = problem.initial().copy()?;
-        let woken = Woken::all(alloc, roster.len())?;
+        let debts = Debts::all(alloc, roster.len())?;
         let dead = present.dead();
         Ok(Engine {
             problem,
             roster,
             occurrences,
-            woken,
+            debts,
             trail: Trail::new(alloc, present),
             dead,
         })
@@ -85,7 +87,7 @@ impl<'i, 'p> Engine<'i, 'p> {
     {
         let alloc = self.trail.present().allocator();
         let (roster, occurrences) = index.before(alloc, place);
-        resize(&mut self.woken, roster.len())?;
+        self.debts.resize(roster.len())?;
         self.roster = roster;
         self.occurrences = occurrences;
         Ok(())
@@ -110,9 +112,9 @@ impl<'i, 'p> Engine<'i, 'p> {
         ensures unchanged { OnErr result (KeepsStates self.old self.new) }
     {
         let mark = self.trail.len();
-        let cut = cut_each(&mut self.trail, &mut self.woken, &self.occurrences, atoms);
+        let cut = cut_each(&mut self.trail, &mut self.debts, &self.occurrences, atoms);
         if cut.is_err() {
-            go_back(&mut self.trail, &mut self.woken, &self.occurrences, mark);
+            go_back(&mut self.trail, &mut self.debts, mark);
             self.dead = self.trail.present().dead();
             return Err(Memory);
         }
@@ -137,17 +139,11 @@ impl<'i, 'p> Engine<'i, 'p> {
             return Ok(Turn::Empty);
         }
         let state = self.trail.present();
-        let found = first_turn(&self.roster, &mut self.woken, state, steps)?;
+        let found = first_turn(&self.roster, &mut self.debts, state, steps)?;
         match found {
             None => Ok(Turn::Quiet),
-            Some((place, turn)) => {
-                apply(
-                    &mut self.trail,
-                    &mut self.woken,
-                    &self.occurrences,
-                    place,
-                    &turn,
-                )?;
+            Some((_, turn)) => {
+                apply(&mut self.trail, &mut self.debts, &self.occurrences, &turn)?;
                 Ok(turn)
             }
         }
@@ -160,13 +156,14 @@ impl<'i, 'p> Engine<'i, 'p> {
         self.trail.len()
     }
 
-    /// Goes back to the state at the mark. Nogoods that were added since then stay.
+    /// Goes back to the state at the mark, where those parts rest again that rested there, and those that
+    /// were not touched since. Nogoods that were added since then stay, and are woken.
     pub fn undo(&mut self, mark: usize)
         requires { mark ≤ length self.old.past }
         ensures parts { KeepsParts self.old self.new }
         ensures states { states self.new ≡ take (mark + 1) (states self.old) }
     {
-        go_back(&mut self.trail, &mut self.woken, &self.occurrences, mark);
+        go_back(&mut self.trail, &mut self.debts, mark);
         self.dead = self.trail.present().dead();
     }
 
@@ -179,10 +176,10 @@ impl<'i, 'p> Engine<'i, 'p> {
         ensures states { KeepsStates self.old self.new }
         ensures unchanged { OnErr result (self.new.nogoods ≡ self.old.nogoods) }
     {
-        self.woken.push()?;
+        self.debts.push()?;
         let added = self.roster.add(nogood, &mut self.occurrences);
         if added.is_err() {
-            self.woken.pop();
+            self.debts.pop();
             return Err(Memory);
         }
         Ok(())
@@ -193,66 +190,113 @@ impl<'i, 'p> Engine<'i, 'p> {
 /// variables. Want of memory leaves some of them done.
 fn cut_each(
     trail: &mut Trail,
-    woken: &mut Woken,
+    debts: &mut Debts,
     occurrences: &Reach,
     atoms: &[Atom],
 ) -> Result<(), Memory>
     requires atoms { AreOf trail.old.present atoms.now }
     requires lists { length occurrences.now ≡ length trail.old.present }
-    requires places { ArePlaces (length woken.old) occurrences.now }
-    ensures followed { IsFollowed occurrences.now woken.old trail.old.present woken.new trail.new.present }
+    requires places { ArePlaces (length debts.old.now) occurrences.now }
+    ensures kept { (parts : List Placed) → IsIndex (length trail.old.present) parts occurrences.now → IsKept parts debts.old trail.old → IsKept parts debts.new trail.new }
+    ensures bits { length debts.new.now ≡ length debts.old.now }
+    ensures lasting { debts.new.lasting ≡ debts.old.lasting }
     ensures counts { (n : ℕ) → HaveCount n (all_of trail.old) → HaveCount n (all_of trail.new) }
     ensures states { Begins (all_of trail.old) (all_of trail.new) }
+    ensures sets { length trail.new.present ≡ length trail.old.present }
     ensures present { OnOk result (trail.new.present ≡ cut_all trail.old.present atoms.now) }
 {
     for atom in atoms {
-        trail.cut(*atom)?;
-        occurrences.wake(atom.var(), woken);
+        go_on(trail, debts, occurrences, *atom)?;
     }
     Ok(())
 }
 
-/// Goes back to the state at the mark, and wakes the parts on each variable whose set is put back.
-fn go_back(trail: &mut Trail, woken: &mut Woken, occurrences: &Reach, mark: usize)
-    requires mark { mark ≤ length trail.old.past }
+/// Goes on to the state that is cut by the atom, and wakes the parts on its variable. Want of memory
+/// leaves all as it was.
+fn go_on(
+    trail: &mut Trail,
+    debts: &mut Debts,
+    occurrences: &Reach,
+    atom: Atom,
+) -> Result<(), Memory>
+    requires there { atom.var < length trail.old.present }
     requires lists { length occurrences.now ≡ length trail.old.present }
-    requires places { ArePlaces (length woken.old) occurrences.now }
-    ensures followed { IsFollowed occurrences.now woken.old trail.old.present woken.new trail.new.present }
+    requires places { ArePlaces (length debts.old.now) occurrences.now }
+    ensures kept { OnOk result ((parts : List Placed) → IsIndex (length trail.old.present) parts occurrences.now → IsKept parts debts.old trail.old → IsKept parts debts.new trail.new) }
+    ensures woken { OnOk result (debts.new.now ≡ with_woken debts.old.now (get_or occurrences.now atom.var [])) }
+    ensures lasting { debts.new.lasting ≡ debts.old.lasting }
+    ensures counts { (n : ℕ) → HaveCount n (all_of trail.old) → HaveCount n (all_of trail.new) }
+    ensures states { Begins (all_of trail.old) (all_of trail.new) }
+    ensures present { OnOk result (trail.new.present ≡ cut trail.old.present atom) }
+    ensures trail_stays { OnErr result (trail.new ≡ trail.old) }
+    ensures debts_stay { OnErr result (debts.new ≡ debts.old) }
+{
+    debts.leave()?;
+    let gone_on = wake_and_cut(trail, debts, occurrences, atom);
+    if gone_on.is_err() {
+        debts.back();
+    }
+    gone_on
+}
+
+/// Wakes the parts on the atom's variable and cuts the state. Want of memory leaves some parts woken, and
+/// the state as it was.
+fn wake_and_cut(
+    trail: &mut Trail,
+    debts: &mut Debts,
+    occurrences: &Reach,
+    atom: Atom,
+) -> Result<(), Memory>
+    requires there { atom.var < length trail.old.present }
+    requires lists { length occurrences.now ≡ length trail.old.present }
+    requires places { ArePlaces (length debts.old.now) occurrences.now }
+    ensures touched { IsTouched debts.old debts.new (λ done. OnOk result (done ≡ get_or occurrences.now atom.var [])) }
+    ensures counts { (n : ℕ) → HaveCount n (all_of trail.old) → HaveCount n (all_of trail.new) }
+    ensures states { Begins (all_of trail.old) (all_of trail.new) }
+    ensures past { OnOk result (trail.new.past ≡ trail.old.past ++ trail.old.present ∷ []) }
+    ensures present { OnOk result (trail.new.present ≡ cut trail.old.present atom) }
+    ensures trail_stays { OnErr result (trail.new ≡ trail.old) }
+{
+    occurrences.wake(atom.var(), debts)?;
+    trail.cut(atom)
+}
+
+/// Goes back to the state at the mark, and to the parts that were woken there.
+fn go_back(trail: &mut Trail, debts: &mut Debts, mark: usize)
+    requires mark { mark ≤ length trail.old.past }
+    ensures kept { (parts : List Placed) → IsKept parts debts.old trail.old → IsKept parts debts.new trail.new }
+    ensures bits { length debts.new.now ≡ length debts.old.now }
+    ensures lasting { debts.new.lasting ≡ debts.old.lasting }
     ensures states { all_of trail.new ≡ take (mark + 1) (all_of trail.old) }
 {
     while trail.len() > mark {
-        let var = trail.back();
-        occurrences.wake(var, woken);
+        let _var = trail.back();
+        debts.back();
     }
 }
 
-/// Applies the turn of the part at the place: an atom leads on to the state that it cuts, and its part
-/// rests until the parts on the atom's variable are woken. Want of memory leaves all as it was.
+/// Applies the turn: an atom leads on to the state that it cuts, and the parts on its variable are woken.
+/// Want of memory leaves all as it was.
 fn apply(
     trail: &mut Trail,
-    woken: &mut Woken,
+    debts: &mut Debts,
     occurrences: &Reach,
-    place: usize,
     turn: &Turn,
 ) -> Result<(), Memory>
     requires atoms { AreOf trail.old.present (atoms_of turn.now) }
     requires lists { length occurrences.now ≡ length trail.old.present }
-    requires there { place < length woken.old }
-    requires places { ArePlaces (length woken.old) occurrences.now }
+    requires places { ArePlaces (length debts.old.now) occurrences.now }
+    ensures kept { OnOk result ((parts : List Placed) → IsIndex (length trail.old.present) parts occurrences.now → IsKept parts debts.old trail.old → IsKept parts debts.new trail.new) }
     ensures counts { (n : ℕ) → HaveCount n (all_of trail.old) → HaveCount n (all_of trail.new) }
     ensures present { OnOk result (trail.new.present ≡ applied trail.old.present turn.now) }
     ensures states { Begins (all_of trail.old) (all_of trail.new) }
-    ensures woken { OnOk result (woken.new ≡ woken_after woken.old occurrences.now place turn.now) }
+    ensures woken { OnOk result (debts.new.now ≡ woken_after debts.old.now occurrences.now turn.now) }
+    ensures lasting { debts.new.lasting ≡ debts.old.lasting }
     ensures trail_stays { OnErr result (trail.new ≡ trail.old) }
-    ensures woken_stays { OnErr result (woken.new ≡ woken.old) }
+    ensures debts_stay { OnErr result (debts.new ≡ debts.old) }
 {
     match turn {
-        Turn::Atom(_, given) => {
-            trail.cut(*given)?;
-            woken.rest(place);
-            occurrences.wake(given.var(), woken);
-            Ok(())
-        }
+        Turn::Atom(_, given) => go_on(trail, debts, occurrences, *given),
         Turn::Clash(_) | Turn::Quiet | Turn::Empty => Ok(()),
     }
 }

@@ -2,6 +2,7 @@
 #![tactic(auto)]
 
 mod change;
+mod debts;
 mod engine;
 mod index;
 mod laws;

@@ -4,11 +4,12 @@ ghost use Rattle.std.specs.Prelude.{◌≡◌, ℕ, ◌<◌, List, [], Some, len
 ghost use Rattle.dp_base.specs.Lists.{Climbs, Each};
 ghost use Rattle.dp_rule_clause.specs.Nogoods.{scope_of};
 ghost use Rattle.dp_engine.specs.Reaches.{below, joined, own_lists};
-ghost use Rattle.dp_engine.specs.Woken.{entered, with_woken};
+ghost use Rattle.dp_engine.specs.Debts.{IsTouched};
+ghost use Rattle.dp_engine.specs.Woken.{entered};
 
 use crate::Nogood;
+use crate::debts::Debts;
 use crate::occurrences::Occurrences;
-use crate::woken::Woken;
 use dp_domain::{Memory, VarId};
 use std::alloc::Global;
 use std::marker::Model;
@@ -46,14 +47,14 @@ impl<'i> Reach<'i> {
         }
     }
 
-    /// Wakes the parts on the variable.
-    pub fn wake(&self, var: VarId, woken: &mut Woken)
+    /// Wakes the parts on the variable. Want of memory leaves some of them done.
+    pub fn wake(&self, var: VarId, debts: &mut Debts) -> Result<(), Memory>
         requires var { var < length self.now }
-        requires places { Each (λ k. k < length woken.old) (get_or self.now var []) }
-        ensures { woken.new ≡ with_woken woken.old (get_or self.now var []) }
+        requires places { Each (λ k. k < length debts.old.now) (get_or self.now var []) }
+        ensures { IsTouched debts.old debts.new (λ done. OnOk result (done ≡ get_or self.now var [])) }
     {
-        woken.wake_each(places_below(self.index.on(var), self.bound));
-        wake_own(&self.own, var, woken);
+        debts.touch_each(places_below(self.index.on(var), self.bound))?;
+        wake_own(&self.own, var, debts)
     }
 
     /// Enters a nogood at the place. Want of memory leaves all as it was.
@@ -77,14 +78,14 @@ fn places_below(places: &[usize], bound: usize) -> &[usize]
 }
 
 /// Wakes the parts that are listed for the variable, if there are lists.
-fn wake_own(own: &Option<Occurrences>, var: VarId, woken: &mut Woken)
+fn wake_own(own: &Option<Occurrences>, var: VarId, debts: &mut Debts) -> Result<(), Memory>
     requires var { (lists : List (List ℕ)) → own.now ≡ Some lists → var < length lists }
-    requires places { Each (λ k. k < length woken.old) (get_or (own_lists own.now) var []) }
-    ensures { woken.new ≡ with_woken woken.old (get_or (own_lists own.now) var []) }
+    requires places { Each (λ k. k < length debts.old.now) (get_or (own_lists own.now) var []) }
+    ensures { IsTouched debts.old debts.new (λ done. OnOk result (done ≡ get_or (own_lists own.now) var [])) }
 {
     match own {
-        Some(own) => woken.wake_each(own.on(var)),
-        None => {}
+        Some(own) => debts.touch_each(own.on(var)),
+        None => Ok(()),
     }
 }
 

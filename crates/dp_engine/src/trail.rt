@@ -61,6 +61,7 @@ impl Trail {
         requires { atom.var < length self.old.present }
         ensures states { Begins (all_of self.old) (all_of self.new) }
         ensures counts { (n : ℕ) → HaveCount n (all_of self.old) → HaveCount n (all_of self.new) }
+        ensures past { OnOk result (self.new.past ≡ self.old.past ++ self.old.present ∷ []) }
         ensures present { OnOk result (self.new.present ≡ cut self.old.present atom) }
         ensures unchanged { OnErr result (self.new ≡ self.old) }
     {

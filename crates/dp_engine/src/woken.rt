@@ -1,8 +1,7 @@
 // Which parts are woken.
 
 ghost use Rattle.std.specs.Prelude.{◌≡◌, ℕ, ◌*◌, ◌<◌, ◌≤◌, Bool, true, false, List, [], ◌∷◌, ◌++◌, length, take, get_or, slice_set, IfOk, MatchOption, OnErr, OnOk};
-ghost use Rattle.dp_base.specs.Lists.{Each};
-ghost use Rattle.dp_engine.specs.Woken.{AreMarked, AreResting, IsFirstWoken, IsGrown, with_woken};
+ghost use Rattle.dp_engine.specs.Woken.{AreMarked, AreResting, IsFirstWoken, IsGrown};
 
 use dp_domain::Memory;
 use std::alloc::Global;
@@ -87,22 +86,34 @@ impl Woken {
         self.lowest = self.lowest.min(place);
     }
 
+    /// Whether a part is woken.
+    pub fn is_woken(&self, place: usize) -> bool
+        requires { place < length self.now }
+        ensures { result ≡ get_or self.now place false }
+    {
+        self.bits[place]
+    }
+
+    /// Wakes a part or puts it to rest, where there is one.
+    pub fn set(&mut self, place: usize, woken: bool)
+        ensures { self.new ≡ slice_set self.old place woken }
+    {
+        if place >= self.len() {
+            return;
+        }
+        if woken {
+            self.wake(place);
+        } else {
+            self.rest(place);
+        }
+    }
+
     /// Puts a part to rest.
     pub fn rest(&mut self, place: usize)
         requires { place < length self.old }
         ensures { self.new ≡ slice_set self.old place false }
     {
         self.bits[place] = false;
-    }
-
-    /// Wakes the parts at these places.
-    pub fn wake_each(&mut self, places: &[usize])
-        requires { Each (λ k. k < length self.old) places.now }
-        ensures { self.new ≡ with_woken self.old places.now }
-    {
-        for place in places {
-            self.wake(*place);
-        }
     }
 
     /// The number of parts.
