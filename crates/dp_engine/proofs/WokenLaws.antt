@@ -187,7 +187,7 @@ values-cut_all_other d [] x h = refl
 values-cut_all_other d (a ∷ atoms) x h = values-cut_all_other (cut d a) atoms x (λ b m. h b (inr m)) ∙ values-cut_other d a x (h a (inl refl))
 
 -- a part has the same turn at two states that agree on its variables
-alike-turn : (n : ℕ) (q : Placed) (d e : Domains) → IsSound n q → length d ≡ n → length e ≡ length d → is_dead d ≡ false → is_dead e ≡ false → AgreesOn q.face.scope d e → turn_of q.face e ≡ turn_of q.face d
+pub alike-turn : (n : ℕ) (q : Placed) (d e : Domains) → IsSound n q → length d ≡ n → length e ≡ length d → is_dead d ≡ false → is_dead e ≡ false → AgreesOn q.face.scope d e → turn_of q.face e ≡ turn_of q.face d
 alike-turn n q d e s l m alive alive_too a = sym (turn-local q.face d e s.lawful (record {
   count = m;
   covers = subst (λ k. Each (λ x. x < k) q.face.scope) (sym l) s.covered;

@@ -1,15 +1,10 @@
-use Rattle.std.proofs.Common.{◌≡◌, ◌+◌, ◌<◌, List, ℕ, [], ◌∷◌, length, get_or, refl, sym, ◌∙◌, ap, subst, arith, length-append}
-use Rattle.dp_base.specs.Lists.{Each}
+use Rattle.std.proofs.Common.{◌≡◌, ◌+◌, ◌<◌, [], ◌∷◌, length, refl, sym, ◌∙◌, ap, arith, length-append}
+use Rattle.dp_engine.specs.Debts.{History}
 use Rattle.dp_engine.specs.Trails.{all_of}
-use Rattle.dp_engine.specs.Woken.{with_woken}
+use Rattle.dp_engine.proofs.DebtLaws.{gone-lasting, gone-length, kept-back}
 use Rattle.dp_engine.proofs.StateSteps.{take-all}
 use Rattle.dp_engine.proofs.TrailLaws.{take-back}
-use Rattle.dp_engine.proofs.WokenLaws.{followed-change, followed-then}
 use Rattle.dp_engine.proofs.engine.go_back.Goals as goal
-
-pub wake-requires-clause-places : goal.wake-requires-clause-places
-wake-requires-clause-places c =
-    subst (λ n. Each (λ k. k < n) (get_or c.args.occurrences.now c.back-var.result [])) (sym c.loop-trail.invariant.followed.bits) (c.requires.places c.back-var.result)
 
 pub loop-trail-preserved : goal.loop-trail-preserved
 loop-trail-preserved c =
@@ -18,9 +13,9 @@ loop-trail-preserved c =
     let before : c.args.mark < length c.loop-trail.trail.past = omega arith in
     record {
       mark = omega arith;
-      followed = followed-then c.args.occurrences.now c.args.woken.now c.loop-trail.woken c.wake.new.woken c.args.trail.now.present c.loop-trail.trail.present c.back-var.new.self.present c.loop-trail.invariant.followed
-          (followed-change c.args.occurrences.now c.loop-trail.woken c.wake.new.woken c.loop-trail.trail.present c.back-var.new.self.present c.back-var.result
-          c.wake.ensures c.back-var.ensures.count c.back-var.ensures.others);
+      kept = λ parts k. kept-back parts c.loop-trail.debts c.back.new.self c.loop-trail.trail c.back-var.new.self c.back.ensures c.back-var.ensures.past (c.loop-trail.invariant.kept parts k);
+      bits = ap (λ (h : History). length h.now) c.back.ensures ∙ gone-length c.loop-trail.debts.lasting c.loop-trail.debts.notes c.loop-trail.debts.now ∙ c.loop-trail.invariant.bits;
+      lasting = ap (λ (h : History). h.lasting) c.back.ensures ∙ gone-lasting c.loop-trail.debts.lasting c.loop-trail.debts.notes c.loop-trail.debts.now ∙ c.loop-trail.invariant.lasting;
       states = sym (take-back (all_of c.loop-trail.trail) c.loop-trail.trail.past c.back-var.new.self.past c.loop-trail.trail.present c.back-var.new.self.present c.args.mark refl c.back-var.ensures.past before)
           ∙ c.loop-trail.invariant.states;
     }
