@@ -1,5 +1,5 @@
 -- Woken parts now and at earlier points: what stays kept.
-use Rattle.std.proofs.Common.{◌≡◌, ℕ, zero, suc, ◌+◌, ◌<◌, ◌≤◌, nat_lt, Bool, true, false, cond, ◌⊎◌, List, [], ◌∷◌, ◌++◌, length, get_or, set, slice_get, Some, None, refl, sym, ◌∙◌, ap, subst, inl, inr, arith}
+use Rattle.std.proofs.Common.{◌≡◌, ℕ, zero, suc, ◌+◌, ◌<◌, ◌≤◌, nat_lt, Bool, true, false, cond, ◌⊎◌, List, [], ◌∷◌, ◌++◌, length, get_or, set, take, slice_get, Some, None, refl, sym, ◌∙◌, ap, subst, inl, inr, arith}
 use Rattle.std.specs.Prelude.{reverse}
 use Rattle.std.proofs.lemmas.Bool.{cases_eq, cases_lt, false≢true, le-ltb, lt-ltb}
 use Rattle.std.proofs.lemmas.List.{get_or-set_other, get_or-set_same, length-set, reverse-append}
@@ -17,7 +17,7 @@ use Rattle.dp_engine.specs.Placed.{Placed}
 use Rattle.dp_engine.specs.Rests.{Rest}
 use Rattle.dp_engine.specs.Trails.{Course}
 use Rattle.dp_engine.specs.Woken.{IsIndex, with_woken}
-use Rattle.dp_engine.proofs.WokenLaws.{agree-off, get-before, off-index, rest-changed, rest-push, with_woken-not}
+use Rattle.dp_engine.proofs.WokenLaws.{agree-off, get-before, off-index, rest-changed, rest-push, with_woken-length, with_woken-not}
 
 -- ---- bits
 
@@ -62,6 +62,24 @@ touched_each-push h (j ∷ ks) k = touched_each-push (touched h j) ks k
 pub touched_each-append : (h : History) (ks js : List ℕ) → touched_each h (ks ++ js) ≡ touched_each (touched_each h ks) js
 touched_each-append h [] js = refl
 touched_each-append h (k ∷ ks) js = touched_each-append (touched h k) ks js
+
+pub touched_each-count : (h : History) (ks : List ℕ) → length (touched_each h ks).now ≡ length h.now
+touched_each-count h ks = ap (λ (ws : List Bool). length ws) (touched_each-now h ks) ∙ with_woken-length h.now ks
+
+-- notes with one more, the last one first
+pub notes-push : (es now : List Note) (x : Note) → now ≡ es ++ x ∷ [] → reverse now ≡ x ∷ reverse es
+notes-push es now x e = ap (λ (fs : List Note). reverse fs) e ∙ reverse-append es (x ∷ [])
+
+take_at : (ks : List ℕ) (i d : ℕ) → i < length ks → take (i + 1) ks ≡ take i ks ++ get_or ks i d ∷ []
+take_at [] i d h = absurd (omega arith)
+take_at (k ∷ ks) zero d h = refl
+take_at (k ∷ ks) (suc i) d h = let next : suc i + 1 ≡ suc (i + 1) = omega arith in ap (λ n. take n (k ∷ ks)) next ∙ ap (λ js. k ∷ js) (take_at ks i d (omega arith))
+
+-- the next of the places touched
+pub touch-next : (h g f : History) (places : List ℕ) (i k d : ℕ) → i < length places → k ≡ get_or places i d → g ≡ touched_each h (take i places) → f ≡ touched g k → f ≡ touched_each h (take (i + 1) places)
+touch-next h g f places i k d l e p q =
+    q ∙ ap (λ (x : History). touched x k) p ∙ sym (touched_each-push h (take i places) k)
+    ∙ ap (λ j. touched_each h (take i places ++ j ∷ [])) e ∙ ap (touched_each h) (sym (take_at places i d l))
 
 -- touches are undone by going back
 pub gone-touched : (h : History) (ks : List ℕ) (n : ℕ) → gone n (touched_each h ks).notes (touched_each h ks).now ≡ gone n h.notes h.now

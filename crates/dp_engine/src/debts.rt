@@ -1,6 +1,6 @@
 // Which parts are woken, and which of them were at each earlier point.
 
-ghost use Rattle.std.specs.Prelude.{◌≡◌, ℕ, ◌+◌, ◌<◌, ◌≤◌, true, false, List, [], ◌∷◌, ◌++◌, length, get_or, slice_set, IfOk, MatchOption, OnErr, OnOk};
+ghost use Rattle.std.specs.Prelude.{◌≡◌, ℕ, ◌+◌, ◌<◌, ◌≤◌, Bool, true, false, List, [], ◌∷◌, ◌++◌, length, get_or, slice_set, IfOk, MatchOption, OnErr, OnOk};
 ghost use Rattle.dp_base.specs.Lists.{Each};
 ghost use Rattle.dp_engine.specs.Debts.{IsTouched, gone, left, rested, touched};
 ghost use Rattle.dp_engine.specs.Woken.{IsFirstWoken};

@@ -29,14 +29,14 @@ returns-in-Some-turn-clause-searched g c =
 
 pub loop-place-smaller : goal.loop-place-smaller
 loop-place-smaller g c =
-    let now : c.rest.new.self ≡ rested c.loop-place.debts c.in-Some.place = c.in_ok-rest.ensures.rested ∙ ap (λ (h : History). rested h c.in-Some.place) c.first.ensures.same in
+    let now : c.rest.new.self ≡ rested c.loop-place.debts c.in-Some.place = c.in_ok-rest-in-None.ensures.rested ∙ ap (λ (h : History). rested h c.in-Some.place) c.first.ensures.same in
     let less : owed_of c.rest.new.self.now + 1 ≡ owed_of c.loop-place.debts.now = ap (λ (h : History). owed_of h.now + 1) now ∙ owed-rest c.loop-place.debts.now c.in-Some.place c.in-Some.ensures.first.woken_there in
     let smaller : owed_of c.rest.new.self.now < owed_of c.loop-place.debts.now = omega arith in
     smaller
 
 pub loop-place-preserved : goal.loop-place-preserved
 loop-place-preserved g c =
-    let now : c.rest.new.self ≡ rested c.loop-place.debts c.in-Some.place = c.in_ok-rest.ensures.rested ∙ ap (λ (h : History). rested h c.in-Some.place) c.first.ensures.same in
+    let now : c.rest.new.self ≡ rested c.loop-place.debts c.in-Some.place = c.in_ok-rest-in-None.ensures.rested ∙ ap (λ (h : History). rested h c.in-Some.place) c.first.ensures.same in
     let less : owed_of c.rest.new.self.now + 1 ≡ owed_of c.loop-place.debts.now = ap (λ (h : History). owed_of h.now + 1) now ∙ owed-rest c.loop-place.debts.now c.in-Some.place c.in-Some.ensures.first.woken_there in
     let sum = c.loop-place.invariant.sum in
     let more = c.loop-place.invariant.more in

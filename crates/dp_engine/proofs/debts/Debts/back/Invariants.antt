@@ -4,8 +4,8 @@ use Rattle.dp_engine.specs.Debts.{gone}
 use Rattle.dp_engine.proofs.debts.Debts.back.Given as goal
 
 -- going back from here leads to the same point
-abbrev pub invariant-loop : goal.invariant-loop
-invariant-loop l = gone l.self.lasting l.self.notes l.self.now ≡ gone l.fn.self.lasting l.fn.self.notes l.fn.self.now
+abbrev pub invariant-loop-place : goal.invariant-loop-place
+invariant-loop-place l = gone l.self.lasting l.self.notes l.self.now ≡ gone l.fn.self.lasting l.fn.self.notes l.fn.self.now
 
-abbrev pub decreases-loop : goal.decreases-loop
-decreases-loop l = length l.self.notes
+abbrev pub decreases-loop-place : goal.decreases-loop-place
+decreases-loop-place l = length l.self.notes
