@@ -1,5 +1,5 @@
 -- Woken parts now and at earlier points: what stays kept.
-use Rattle.std.proofs.Common.{◌≡◌, ℕ, zero, suc, ◌+◌, ◌<◌, ◌≤◌, nat_lt, Bool, true, false, cond, ◌⊎◌, List, [], ◌∷◌, ◌++◌, length, get_or, set, take, slice_get, Some, None, refl, sym, ◌∙◌, ap, subst, inl, inr, arith}
+use Rattle.std.proofs.Common.{◌≡◌, ℕ, zero, suc, ◌+◌, ◌<◌, ◌≤◌, nat_lt, Bool, true, false, cond, ◌⊎◌, List, [], ◌∷◌, ◌++◌, length, get_or, set, take, slice_get, Some, None, Result, Ok, Err, OnOk, OnErr, refl, sym, ◌∙◌, ap, subst, inl, inr, arith}
 use Rattle.std.specs.Prelude.{reverse}
 use Rattle.std.proofs.lemmas.Bool.{cases_eq, cases_lt, false≢true, le-ltb, lt-ltb}
 use Rattle.std.proofs.lemmas.List.{get_or-set_other, get_or-set_same, length-set, reverse-append}
@@ -85,6 +85,20 @@ touch-next h g f places i k d l e p q =
 pub gone-touched : (h : History) (ks : List ℕ) (n : ℕ) → gone n (touched_each h ks).notes (touched_each h ks).now ≡ gone n h.notes h.now
 gone-touched h [] n = refl
 gone-touched h (k ∷ ks) n = gone-touched (touched h k) ks n ∙ ap (gone n h.notes) (set-back h.now k true)
+
+-- the point left and parts touched, and back again
+pub back-touched : (h g : History) (ks : List ℕ) → g ≡ touched_each (left h) ks → gone g.lasting g.notes g.now ≡ h
+back-touched h g ks e =
+    ap (λ (k : History). gone k.lasting k.notes k.now) e ∙ gone-touched (left h) ks (touched_each (left h) ks).lasting
+    ∙ ap (λ n. record { notes = h.notes; now = h.now; lasting = n }) (touched_each-lasting (left h) ks)
+
+pub err-any : {T E P : Type 0} (r : Result T E) → P → OnErr r P
+err-any (Ok x) p = tt
+err-any (Err x) p = p
+
+pub ok-any : {T E P : Type 0} (r : Result T E) → P → OnOk r P
+ok-any (Ok x) p = p
+ok-any (Err x) p = tt
 
 pub gone-length : (n : ℕ) (es : List Note) (w : List Bool) → length (gone n es w).now ≡ length w
 gone-length n [] w = refl

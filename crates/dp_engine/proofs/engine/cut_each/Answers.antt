@@ -10,6 +10,9 @@ use Rattle.dp_engine.proofs.engine.cut_each.Goals as goal
 pub go_on-requires-clause-places : goal.go_on-requires-clause-places
 go_on-requires-clause-places c = subst (λ n. ArePlaces n c.args.occurrences.now) (sym c.loop-atom.invariant.bits) c.requires.places
 
+pub returns-in_err-go_on-clause-counts : goal.returns-in_err-go_on-clause-counts
+returns-in_err-go_on-clause-counts c = λ n h. c.go_on.ensures.counts n (c.loop-atom.invariant.counts n h)
+
 pub loop-atom-preserved : goal.loop-atom-preserved
 loop-atom-preserved c =
     let there : c.loop-atom.atom-index < length c.args.atoms.now = omega (arith, c.loop-atom-test.true) in

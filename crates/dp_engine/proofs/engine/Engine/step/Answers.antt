@@ -36,7 +36,7 @@ first_turn-requires g c =
 pub apply-requires : goal.apply-requires
 apply-requires g c =
     let found = found-facts (all_placed c.self.inside.roster) (turn_order (posed c.self.inside.problem.now) c.self.inside.roster.nogoods) c.present-state.result.now c.self.inside.trail.present c.first_turn.new.debts.now (c.args.steps.now + owed_of c.self.inside.debts.now) (c.first_turn.new.steps + owed_of c.first_turn.new.debts.now)
-    c.in_ok-found.found c.in-Some.place c.in-Some.turn c.self.invariant.parts c.present-state.ensures c.in-Some.is c.in_ok-found.ensures.searched in
+    c.in_ok-found.found c.in-Some.field-0-0 c.in-Some.turn c.self.invariant.parts c.present-state.ensures c.in-Some.is c.in_ok-found.ensures.searched in
     let count : length c.self.inside.trail.present ≡ length c.self.inside.problem.now.initial = counted-last c.self.inside.trail.past c.self.inside.trail.present (length c.self.inside.problem.now.initial) c.self.invariant.engine.states in
     let bits : length c.first_turn.new.debts.now ≡ length (turn_order (posed c.self.inside.problem.now) c.self.inside.roster.nogoods) = c.first_turn.ensures.count ∙ c.self.invariant.count in
     record {
@@ -90,7 +90,7 @@ invariant_of-self-in_err-apply-in-Some g c =
 pub returns-in_err-apply-in-Some-clause-counted : goal.returns-in_err-apply-in-Some-clause-counted
 returns-in_err-apply-in-Some-clause-counted g c =
     let found = found-facts (all_placed c.self.inside.roster) (turn_order (posed c.self.inside.problem.now) c.self.inside.roster.nogoods) c.present-state.result.now c.self.inside.trail.present c.first_turn.new.debts.now (c.args.steps.now + owed_of c.self.inside.debts.now) (c.first_turn.new.steps + owed_of c.first_turn.new.debts.now)
-    c.in_ok-found.found c.in-Some.place c.in-Some.turn c.self.invariant.parts c.present-state.ensures c.in-Some.is c.in_ok-found.ensures.searched in
+    c.in_ok-found.found c.in-Some.field-0-0 c.in-Some.turn c.self.invariant.parts c.present-state.ensures c.in-Some.is c.in_ok-found.ensures.searched in
     subst (λ (e : Propagation). (x : ℕ) × (c.first_turn.new.steps ≡ c.args.steps.now + x) × MatchResult c.from_residual-in_err-apply-in-Some.result (IsCounted (parts_of e) e.owed x (owed_of c.apply.new.debts.now)) (λ m. x + owed_of c.apply.new.debts.now ≤ e.owed + 1)) c.self.view_is
     (counted-err _ c.from_residual-in_err-apply-in-Some.result (turn_order (posed c.self.inside.problem.now) c.self.inside.roster.nogoods) (owed_of c.self.inside.debts.now) c.args.steps.now c.first_turn.new.steps (owed_of c.apply.new.debts.now) c.from_residual-in_err-apply-in-Some.ensures.1 c.first_turn.ensures.more
     (subst (λ (h : History). c.first_turn.new.steps + owed_of h.now ≤ (c.args.steps.now + owed_of c.self.inside.debts.now) + 1) (sym c.in_err-apply-in-Some.ensures.debts_stay) found.0))
@@ -98,7 +98,7 @@ returns-in_err-apply-in-Some-clause-counted g c =
 pub invariant_of-self-in-Some : goal.invariant_of-self-in-Some
 invariant_of-self-in-Some g c =
     let found = found-facts (all_placed c.self.inside.roster) (turn_order (posed c.self.inside.problem.now) c.self.inside.roster.nogoods) c.present-state.result.now c.self.inside.trail.present c.first_turn.new.debts.now (c.args.steps.now + owed_of c.self.inside.debts.now) (c.first_turn.new.steps + owed_of c.first_turn.new.debts.now)
-    c.in_ok-found.found c.in-Some.place c.in-Some.turn c.self.invariant.parts c.present-state.ensures c.in-Some.is c.in_ok-found.ensures.searched in
+    c.in_ok-found.found c.in-Some.field-0-0 c.in-Some.turn c.self.invariant.parts c.present-state.ensures c.in-Some.is c.in_ok-found.ensures.searched in
     let sound : AreSound (length c.self.inside.problem.now.initial) (turn_order (posed c.self.inside.problem.now) c.self.inside.roster.nogoods) = problem-sound c.self.inside.problem.now c.self.inside.roster.nogoods c.self.invariant.engine.problem c.self.invariant.engine.nogoods in
     let rest : Rest (turn_order (posed c.self.inside.problem.now) c.self.inside.roster.nogoods) c.first_turn.new.debts.now c.self.inside.trail.present = subst (λ (qs : List Placed). Rest qs c.first_turn.new.debts.now c.self.inside.trail.present) c.self.invariant.parts
     (subst (λ (d : Domains). Rest (all_placed c.self.inside.roster) c.first_turn.new.debts.now d) c.present-state.ensures c.first_turn.ensures.rest) in
@@ -137,16 +137,16 @@ returns-in-None-clause-counted g c =
 pub returns-in_ok-apply-in-Some-clause-meaning : goal.returns-in_ok-apply-in-Some-clause-meaning
 returns-in_ok-apply-in-Some-clause-meaning g c =
     let found = found-facts (all_placed c.self.inside.roster) (turn_order (posed c.self.inside.problem.now) c.self.inside.roster.nogoods) c.present-state.result.now c.self.inside.trail.present c.first_turn.new.debts.now (c.args.steps.now + owed_of c.self.inside.debts.now) (c.first_turn.new.steps + owed_of c.first_turn.new.debts.now)
-    c.in_ok-found.found c.in-Some.place c.in-Some.turn c.self.invariant.parts c.present-state.ensures c.in-Some.is c.in_ok-found.ensures.searched in
+    c.in_ok-found.found c.in-Some.field-0-0 c.in-Some.turn c.self.invariant.parts c.present-state.ensures c.in-Some.is c.in_ok-found.ensures.searched in
     subst (λ (e : Propagation). IsTurnAt (parts_of e) e.present c.in-Some.turn) c.self.view_is
     (turn-meant c.self.inside.problem.now c.self.inside.roster.nogoods c.self.inside.trail.present c.in-Some.turn c.self.invariant.engine.problem c.self.invariant.engine.nogoods found.1.first)
 
 pub returns-in_ok-apply-in-Some-clause-counted : goal.returns-in_ok-apply-in-Some-clause-counted
 returns-in_ok-apply-in-Some-clause-counted g c =
     let found = found-facts (all_placed c.self.inside.roster) (turn_order (posed c.self.inside.problem.now) c.self.inside.roster.nogoods) c.present-state.result.now c.self.inside.trail.present c.first_turn.new.debts.now (c.args.steps.now + owed_of c.self.inside.debts.now) (c.first_turn.new.steps + owed_of c.first_turn.new.debts.now)
-    c.in_ok-found.found c.in-Some.place c.in-Some.turn c.self.invariant.parts c.present-state.ensures c.in-Some.is c.in_ok-found.ensures.searched in
+    c.in_ok-found.found c.in-Some.field-0-0 c.in-Some.turn c.self.invariant.parts c.present-state.ensures c.in-Some.is c.in_ok-found.ensures.searched in
     let sound : AreSound (length c.self.inside.problem.now.initial) (turn_order (posed c.self.inside.problem.now) c.self.inside.roster.nogoods) = problem-sound c.self.inside.problem.now c.self.inside.roster.nogoods c.self.invariant.engine.problem c.self.invariant.engine.nogoods in
     subst (λ (e : Propagation). (x : ℕ) × (c.first_turn.new.steps ≡ c.args.steps.now + x) × IsCounted (parts_of e) e.owed x (owed_of c.apply.new.debts.now) c.in-Some.turn) c.self.view_is
-    (counted-step (length c.self.inside.problem.now.initial) (turn_order (posed c.self.inside.problem.now) c.self.inside.roster.nogoods) c.self.inside.occurrences c.first_turn.new.debts.now c.apply.new.debts.now c.self.inside.trail.present c.in-Some.place c.in-Some.turn (owed_of c.self.inside.debts.now)
+    (counted-step (length c.self.inside.problem.now.initial) (turn_order (posed c.self.inside.problem.now) c.self.inside.roster.nogoods) c.self.inside.occurrences c.first_turn.new.debts.now c.apply.new.debts.now c.self.inside.trail.present c.in-Some.field-0-0 c.in-Some.turn (owed_of c.self.inside.debts.now)
     c.args.steps.now c.first_turn.new.steps sound (sym c.self.invariant.known ∙ c.if-self.false) c.self.invariant.index (turn-atoms (length c.self.inside.problem.now.initial) (turn_order (posed c.self.inside.problem.now) c.self.inside.roster.nogoods) c.self.inside.trail.present c.in-Some.turn sound found.1.first) found.1 c.first_turn.ensures.more found.0
     c.in_ok-apply-in-Some.ensures.woken)
