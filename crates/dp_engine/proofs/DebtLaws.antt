@@ -128,7 +128,7 @@ kept-touched parts g (k ∷ ks) ts e past l h =
     kept-touched parts (touched g k) ks ts e past (subst (λ n. Each (λ j. j < n) ks) (sym (length-set g.now k true)) l.1) (
       subst (λ n. k < n) (sym (length-set g.now k true)) l.0,
       kept-more parts g.lasting g.notes (k ∷ (ks ++ ts)) (k ∷ (ks ++ ts)) (set (set g.now k true) k (get_or g.now k false)) e past (λ j m. m)
-      (subst (λ w. AreKept parts g.lasting g.notes (k ∷ (ks ++ ts)) w e past) (sym (set-back g.now k true)) h),
+          (subst (λ w. AreKept parts g.lasting g.notes (k ∷ (ks ++ ts)) w e past) (sym (set-back g.now k true)) h),
     )
 
 -- a bit that is not set in the one list is not set in the other, or its part rests and was not touched
@@ -162,12 +162,11 @@ kept_rests parts n (Was k b ∷ es) ts w v e past l r h =
 kept_rests parts n (Left ∷ es) ts w v e [] l r h = h
 kept_rests parts n (Left ∷ es) ts w v e (d ∷ past) l r h =
     let quiet : (j : ℕ) (q : Placed) → slice_get parts j ≡ Some q → get_or v j true ≡ false → (get_or w j true ≡ false) ⊎ ((j < n) × (Among j [] → ⊥)
-        × ((f : Domains) → length f ≡ length d → is_dead f ≡ false → AgreesOn q.face.scope d f → turn_of q.face f ≡ None)) =
-      λ j q s z. elim (r j q s z) [
-        | inl o ↦ inl o
-        | inr o ↦ inr (o.0, (λ m. m), λ f m a g. o.2 f (m ∙ sym h.1.0) a (λ x i. sym (h.1.1 j q o.0 s o.1 x i) ∙ g x i))
-      ] in
-    (
+    × ((f : Domains) → length f ≡ length d → is_dead f ≡ false → AgreesOn q.face.scope d f → turn_of q.face f ≡ None)) =
+    λ j q s z. elim (r j q s z) [
+      | inl o ↦ inl o
+      | inr o ↦ inr (o.0, (λ m. m), λ f m a g. o.2 f (m ∙ sym h.1.0) a (λ x i. sym (h.1.1 j q o.0 s o.1 x i) ∙ g x i))
+    ] in (
       λ j q s z f m a g. elim (quiet j q s z) [
         | inl o ↦ h.0 j q s o f m a g
         | inr o ↦ o.2 f m a g
@@ -194,7 +193,7 @@ rested_if parts h k e past true t less there awake quiet kept =
 rested_if parts h k e past false t less there awake quiet kept = (
   subst (λ n. k < n) (sym (length-set h.now k false)) there,
   kept-more parts h.lasting h.notes [] (k ∷ []) (set (set h.now k false) k true) e past (λ j m. absurd m)
-  (subst (λ w. AreKept parts h.lasting h.notes [] w e past) (sym (set_over h.now k true false ∙ set-same h.now k awake)) kept),
+      (subst (λ w. AreKept parts h.lasting h.notes [] w e past) (sym (set_over h.now k true false ∙ set-same h.now k awake)) kept),
 )
 
 -- after a part without a turn is put to rest
@@ -241,7 +240,7 @@ kept-on parts lists h g c b a index on there eg ep ec kept =
     let ks : List ℕ = get_or lists a.var [] in
     let d : Domains = c.present in
     let off : (k : ℕ) (q : Placed) → slice_get parts k ≡ Some q → (Among k ks → ⊥) → AgreesOn q.face.scope d (cut d a) =
-      λ k q s out. agree-off q.face.scope d a (off-index (length d) parts lists k a.var q index on s out) in
+    λ k q s out. agree-off q.face.scope d a (off-index (length d) parts lists k a.var q index on s out) in
     let back : reverse b.past ≡ d ∷ reverse c.past = ap (λ (ds : List Domains). reverse ds) ep ∙ reverse-append c.past (d ∷ []) in
     let now : g.now ≡ with_woken h.now ks = ap (λ (k : History). k.now) eg ∙ touched_each-now (left h) ks in
     let last : g.lasting ≡ h.lasting = ap (λ (k : History). k.lasting) eg ∙ touched_each-lasting (left h) ks in

@@ -21,7 +21,7 @@ returns-else-is_err-clause-kept c =
     let fine = sym c.is_err.ensures.value ∙ c.if-is_err.false in
     let all : ks ≡ get_or c.args.occurrences.now c.args.atom.var [] = ok-part c.wake_and_cut-gone_on.result fine c.wake_and_cut-gone_on.ensures.touched.2 in
     let on : c.wake_and_cut-gone_on.new.debts ≡ touched_each (left c.args.debts.now) (get_or c.args.occurrences.now c.args.atom.var []) =
-      c.wake_and_cut-gone_on.ensures.touched.1 ∙ ap (λ (h : History). touched_each h ks) c.in_ok-leave.ensures.left ∙ ap (touched_each (left c.args.debts.now)) all in
+    c.wake_and_cut-gone_on.ensures.touched.1 ∙ ap (λ (h : History). touched_each h ks) c.in_ok-leave.ensures.left ∙ ap (touched_each (left c.args.debts.now)) all in
     ok-any c.wake_and_cut-gone_on.result (λ parts index kept. kept-on parts c.args.occurrences.now c.args.debts.now c.wake_and_cut-gone_on.new.debts c.args.trail.now c.wake_and_cut-gone_on.new.trail c.args.atom index c.requires.there
     (c.requires.places c.args.atom.var) on (ok-part c.wake_and_cut-gone_on.result fine c.wake_and_cut-gone_on.ensures.past) (ok-part c.wake_and_cut-gone_on.result fine c.wake_and_cut-gone_on.ensures.present) kept)
 
@@ -31,7 +31,7 @@ returns-else-is_err-clause-woken c =
     let fine = sym c.is_err.ensures.value ∙ c.if-is_err.false in
     let all : ks ≡ get_or c.args.occurrences.now c.args.atom.var [] = ok-part c.wake_and_cut-gone_on.result fine c.wake_and_cut-gone_on.ensures.touched.2 in
     let on : c.wake_and_cut-gone_on.new.debts ≡ touched_each (left c.args.debts.now) (get_or c.args.occurrences.now c.args.atom.var []) =
-      c.wake_and_cut-gone_on.ensures.touched.1 ∙ ap (λ (h : History). touched_each h ks) c.in_ok-leave.ensures.left ∙ ap (touched_each (left c.args.debts.now)) all in
+    c.wake_and_cut-gone_on.ensures.touched.1 ∙ ap (λ (h : History). touched_each h ks) c.in_ok-leave.ensures.left ∙ ap (touched_each (left c.args.debts.now)) all in
     ok-any c.wake_and_cut-gone_on.result (ap (λ (h : History). h.now) on ∙ touched_each-now (left c.args.debts.now) (get_or c.args.occurrences.now c.args.atom.var []))
 
 pub returns-else-is_err-clause-lasting : goal.returns-else-is_err-clause-lasting

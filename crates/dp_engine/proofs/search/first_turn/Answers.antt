@@ -42,7 +42,7 @@ loop-place-preserved g c =
     let more = c.loop-place.invariant.more in
     let ticked = c.turn.ensures.ticked in
     let none : (q : Placed) → slice_get (all_placed c.args.roster.now) c.in-Some.place ≡ Some q → turn_of q.face c.args.state.now ≡ None =
-      λ q h. no-turn q.id (turn_of q.face c.args.state.now) (sym c.in-None.is ∙ c.in_ok-turn.ensures.turn q h) in
+    λ q h. no-turn q.id (turn_of q.face c.args.state.now) (sym c.in-None.is ∙ c.in_ok-turn.ensures.turn q h) in
     record {
       count = ap (λ (h : History). length h.now) now ∙ length-set c.loop-place.debts.now c.in-Some.place false ∙ c.loop-place.invariant.count;
       lasting = ap (λ (h : History). h.lasting) now ∙ c.loop-place.invariant.lasting;

@@ -35,12 +35,11 @@ pub returns : goal.returns
 returns c =
     let at = joined-at c.self.inside.bound c.self.inside.index.now (own_lists c.self.inside.own) c.args.self.now c.args.var c.self.view_is c.requires.var in
     let seen : List ℕ = c.in_ok-touch_each.ensures.0 in
-    let own : List ℕ = c.wake_own.ensures.0 in
-    (
+    let own : List ℕ = c.wake_own.ensures.0 in (
       seen ++ own,
       c.wake_own.ensures.1 ∙ ap (λ (h : History). touched_each h own) c.in_ok-touch_each.ensures.1 ∙ sym (touched_each-append c.args.debts.now seen own),
       on-ok c.wake_own.result
-      (λ e. ap (λ ks. ks ++ own) (c.in_ok-touch_each.ensures.2 ∙ c.places_below.ensures ∙ ap (below c.self.inside.bound) c.on.ensures)
-      ∙ ap (λ js. below c.self.inside.bound (get_or c.self.inside.index.now c.args.var []) ++ js) e ∙ sym at)
-      c.wake_own.ensures.2,
+          (λ e. ap (λ ks. ks ++ own) (c.in_ok-touch_each.ensures.2 ∙ c.places_below.ensures ∙ ap (below c.self.inside.bound) c.on.ensures)
+          ∙ ap (λ js. below c.self.inside.bound (get_or c.self.inside.index.now c.args.var []) ++ js) e ∙ sym at)
+          c.wake_own.ensures.2,
     )
