@@ -20,10 +20,11 @@ use Rattle.dp_command.specs.Replies.{IsGiven, IsJudged, IsTrueReply, JudgesLog, 
 use Rattle.dp_command.specs.Words.{Request, Check}
 use Rattle.dp_command.specs.declared.finding.Found.{Found}
 use Rattle.dp_command.specs.declared.finding.Found.TheVariants.{Problem, Refusal}
+use Rattle.dp_command.specs.declared.generate.Family.{Family}
 use Rattle.dp_command.specs.declared.outcome.Outcome.{Outcome}
 use Rattle.dp_command.specs.declared.proving.Proving.{Proving}
 use Rattle.dp_command.specs.declared.reply.Reply.{Reply}
-use Rattle.dp_command.specs.declared.reply.Reply.TheVariants.{NoCommand, ModelRefused, Accepted, Unread, Refused, Shown as ShownLog, Processed, Proved}
+use Rattle.dp_command.specs.declared.reply.Reply.TheVariants.{NoCommand, ModelRefused, Accepted, Unread, Refused, Shown as ShownLog, Processed, Proved, Generated}
 
 -- ---- the model's text
 
@@ -78,6 +79,11 @@ no_proving p (answer.Accepted v) proving e = absurd cc
 no_proving p (answer.Unread r) proving e = absurd cc
 no_proving p (answer.Refused r t) proving e = absurd cc
 
+no_family : (p : Csp) (a : LogAnswer) (family : Family) → Generated family ≡ reply_of p a → ⊥
+no_family p (answer.Accepted v) family e = absurd cc
+no_family p (answer.Unread r) family e = absurd cc
+no_family p (answer.Refused r t) family e = absurd cc
+
 due_by : (names : Option Files) (words : List (List ℕ)) (p : Csp) (a : LogAnswer) (reply : Reply) → reply ≡ reply_of p a → JudgesLog names words reply → Replies names words reply
 due_by names words p a NoCommand e j = absurd (no_command p a e)
 due_by names words p a (ModelRefused refusal) e j = absurd (no_refusal p a refusal e)
@@ -87,6 +93,7 @@ due_by names words p a (Refused refusal text) e j = j
 due_by names words p a (ShownLog shown) e j = absurd (no_shown p a shown e)
 due_by names words p a (Processed o) e j = absurd (no_outcome p a o e)
 due_by names words p a (Proved proving) e j = absurd (no_proving p a proving e)
+due_by names words p a (Generated family) e j = absurd (no_family p a family e)
 
 -- a model was read that poses this problem
 pub given_of : (names : Option Files) (model : List ℕ) (m : Plan) (p : Csp) → IsFound names model (Problem m p) → IsGiven names model m

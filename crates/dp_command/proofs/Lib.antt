@@ -1,3 +1,4 @@
+pub mod Options
 pub mod Claims
 pub mod Requests
 pub mod Checks
@@ -5,6 +6,7 @@ pub mod Shows
 pub mod Processes
 pub mod Rights
 pub mod Proves
+pub mod Families
 pub mod Says
 pub mod Solves
 pub mod Tasks

@@ -72,10 +72,10 @@ pub check_patient : (names later : Option Files) (model name : List ℕ) (m : Pl
 check_patient names later model name m p what was middle now same left is found j =
     patience_at log.has_no_refusal no_line names later model name m p what was middle now same left is found j
 
-pub process_patient : (names later : Option Files) (model name out : List ℕ) (m : Plan) (p : Csp) (what : Found) (was middle now : Channel) →
+pub process_patient : (names later : Option Files) (model name out : List ℕ) (workers : ℕ) (m : Plan) (p : Csp) (what : Found) (was middle now : Channel) →
     later ≡ names → middle ≡ was → what ≡ Problem m p → IsFound names model what → IsPatient (scaffold.has_no_refusal (posed p)) later name middle now →
-    HasPatience names (Process model name out) was now
-process_patient names later model name out m p what was middle now same left is found j =
+    HasPatience names (Process model name out workers) was now
+process_patient names later model name out workers m p what was middle now same left is found j =
     patience_at scaffold.has_no_refusal no_scaffold_line names later model name m p what was middle now same left is found j
 
 -- ---- a fault that is handed on

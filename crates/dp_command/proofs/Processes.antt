@@ -29,7 +29,7 @@ use Rattle.dp_command.specs.Found.{IsFound}
 use Rattle.dp_command.specs.Outcomes.{IsDone, IsOutcome}
 use Rattle.dp_command.specs.Proved.{FilesProof}
 use Rattle.dp_command.specs.Replies.{IsProcessed, ProcessesScaffold, Replies, RepliesTo}
-use Rattle.dp_command.specs.Texts.{file_of, outcome_file, outcome_status, status_of}
+use Rattle.dp_command.specs.Texts.{first_of, outcome_file, outcome_status, status_of}
 use Rattle.dp_command.specs.Words.{Process, IsProcess}
 use Rattle.dp_command.specs.declared.finding.Found.{Found}
 use Rattle.dp_command.specs.declared.finding.Found.TheVariants.{Problem}
@@ -37,7 +37,7 @@ use Rattle.dp_command.specs.declared.outcome.Done.{Done}
 use Rattle.dp_command.specs.declared.outcome.Outcome.{Outcome}
 use Rattle.dp_command.specs.declared.outcome.Outcome.TheVariants as outcome
 use Rattle.dp_command.specs.declared.reply.Reply.{Reply}
-use Rattle.dp_command.specs.declared.reply.Reply.TheVariants.{NoCommand, ModelRefused, Accepted, Unread, Refused, Shown as ShownLog, Processed, Proved}
+use Rattle.dp_command.specs.declared.reply.Reply.TheVariants.{NoCommand, ModelRefused, Accepted, Unread, Refused, Shown as ShownLog, Processed, Proved, Generated}
 
 -- ---- a scaffold that is given was read whole
 
@@ -78,13 +78,14 @@ outcome_ended p out lines now o h end e = ended_by p out lines now o h end e
 
 -- ---- the reply
 
-due_of : (names : Option Files) (model scaffold out : List ℕ) (m : Plan) (p : Csp) (o : Outcome) → IsFound names model (Problem m p) → IsProcessed names scaffold out p o →
-    RepliesTo names (Process model scaffold out) (Processed o)
-due_of names model scaffold out m p o f h = λ words asked.
+due_of : (names : Option Files) (model scaffold out : List ℕ) (workers : ℕ) (m : Plan) (p : Csp) (o : Outcome) → IsFound names model (Problem m p) → IsProcessed names scaffold out p o →
+    RepliesTo names (Process model scaffold out workers) (Processed o)
+due_of names model scaffold out workers m p o f h = λ words asked.
     record {
       model = model;
       scaffold = scaffold;
       out = out;
+      workers = workers;
       asked = asked;
       m = m;
       given = given_of names model m p f;
@@ -92,10 +93,10 @@ due_of names model scaffold out m p o f h = λ words asked.
     }
 
 -- the reply for the scaffold belongs to the words
-pub outcome_at : (names later : Option Files) (model scaffold out : List ℕ) (m : Plan) (p : Csp) (o : Outcome) (what : Found) → later ≡ names → what ≡ Problem m p → IsFound names model what →
-    IsProcessed later scaffold out p o → RepliesTo names (Process model scaffold out) (Processed o)
-outcome_at names later model scaffold out m p o what same is f h =
-    due_of names model scaffold out m p o (subst (λ (w : Found). IsFound names model w) is f) (subst (λ (n : Option Files). IsProcessed n scaffold out p o) same h)
+pub outcome_at : (names later : Option Files) (model scaffold out : List ℕ) (workers : ℕ) (m : Plan) (p : Csp) (o : Outcome) (what : Found) → later ≡ names → what ≡ Problem m p → IsFound names model what →
+    IsProcessed later scaffold out p o → RepliesTo names (Process model scaffold out workers) (Processed o)
+outcome_at names later model scaffold out workers m p o what same is f h =
+    due_of names model scaffold out workers m p o (subst (λ (w : Found). IsFound names model w) is f) (subst (λ (n : Option Files). IsProcessed n scaffold out p o) same h)
 
 -- ---- what was written
 
@@ -106,6 +107,7 @@ proof_by names words (outcome.Done done) was now due e filed =
       model = due.model;
       scaffold = due.scaffold;
       out = due.out;
+      workers = due.workers;
       asked = due.asked;
       m = due.m;
       given = due.given;
@@ -124,13 +126,14 @@ proof_by names words (outcome.Refused refusal text) was now due e filed = absurd
 proof_by names words (outcome.NotFollowing failing) was now due e filed = absurd cc
 
 -- at status 0 the processed log of a scaffold stands in the file
-pub proof_of : (names : Option Files) (words : List (List ℕ)) (reply : Reply) (was now : Channel) → Replies names words reply → IsProcess words → status_of reply ≡ 0 → IsFiled (file_of reply) was now →
+pub proof_of : (names : Option Files) (words : List (List ℕ)) (reply : Reply) (was now : Channel) → Replies names words reply → IsProcess words → status_of reply ≡ 0 → IsFiled (first_of reply) was now →
     FilesProof names words now
 proof_of names words NoCommand was now due process e filed = absurd cc
 proof_of names words (ModelRefused refusal) was now due process e filed = absurd cc
-proof_of names words (Accepted claim) was now due process e filed = absurd (check_is_no_process words due.model due.log process due.asked)
+proof_of names words (Accepted claim) was now due process e filed = absurd (check_processes_not words (due.model, due.log, due.asked) process)
 proof_of names words (Unread refusal) was now due process e filed = absurd cc
 proof_of names words (Refused refusal told) was now due process e filed = absurd cc
-proof_of names words (ShownLog shown) was now due process e filed = absurd (show_is_no_process words due.log process due.asked)
+proof_of names words (ShownLog shown) was now due process e filed = absurd (show_processes_not words (due.log, due.asked) process)
 proof_of names words (Processed o) was now due process e filed = proof_by names words o was now due e filed
-proof_of names words (Proved proving) was now due process e filed = absurd (process_proves_not words process (due.model, due.most, due.asked))
+proof_of names words (Proved proving) was now due process e filed = absurd (process_proves_not words process (due.model, due.workers, due.most, due.asked))
+proof_of names words (Generated family) was now due process e filed = absurd (gen_processes_not words (due.n, due.model, due.scaffold, due.asked) process)

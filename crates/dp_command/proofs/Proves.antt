@@ -27,7 +27,7 @@ use Rattle.fz_prove.specs.declared.proof.Proof.TheVariants.{Solved, Unknown, Acc
 use Rattle.fz_solve.specs.Printed.{outcome_status, outcome_text}
 use Rattle.fz_solve.specs.Solved.{Finds}
 use Rattle.dp_command.proofs.Checks.{given_of}
-use Rattle.dp_command.proofs.Requests.{prove_is_no_check, prove_is_no_process, prove_is_no_show}
+use Rattle.dp_command.proofs.Requests.{check_proves_not, gen_proves_not, process_proves_not, show_proves_not}
 use Rattle.dp_command.proofs.Rights.{log_goal, log_right}
 use Rattle.dp_command.specs.Due.{Said}
 use Rattle.dp_command.specs.Found.{IsFound, IsProblemOf}
@@ -41,7 +41,7 @@ use Rattle.dp_command.specs.declared.finding.Found.{Found}
 use Rattle.dp_command.specs.declared.finding.Found.TheVariants.{Problem}
 use Rattle.dp_command.specs.declared.proving.Proving.{Proving}
 use Rattle.dp_command.specs.declared.reply.Reply.{Reply}
-use Rattle.dp_command.specs.declared.reply.Reply.TheVariants.{NoCommand, ModelRefused, Accepted as AcceptedReply, Unread, Refused, Shown as ShownLog, Processed, Proved}
+use Rattle.dp_command.specs.declared.reply.Reply.TheVariants.{NoCommand, ModelRefused, Accepted as AcceptedReply, Unread, Refused, Shown as ShownLog, Processed, Proved, Generated}
 
 -- ---- what was checked
 
@@ -134,13 +134,14 @@ proving_is m p most end told problem is h e =
     record { end = end; proves = h; told = e; holds = subst (λ (t : Proving). IsTrueProving m t) (sym e) (true_by m p h.outcome h.found.nogoods h.found.claim end problem is h.ending) }
 
 -- the reply for a model that is proved belongs to the words
-pub proving_at : (names : Option Files) (model : List ℕ) (most : ℕ) (m : Plan) (p : Csp) (told : Proving) (what : Found) → what ≡ Problem m p → IsFound names model what → IsProving m p most told →
-    RepliesTo names (Prove model most) (Proved told)
-proving_at names model most m p told what is f h =
+pub proving_at : (names : Option Files) (model : List ℕ) (workers most : ℕ) (m : Plan) (p : Csp) (told : Proving) (what : Found) → what ≡ Problem m p → IsFound names model what → IsProving m p most told →
+    RepliesTo names (Prove model workers most) (Proved told)
+proving_at names model workers most m p told what is f h =
     let found : IsFound names model (Problem m p) = subst (λ (w : Found). IsFound names model w) is f in
     λ words asked.
     record {
       model = model;
+      workers = workers;
       most = most;
       asked = asked;
       m = m;
@@ -211,13 +212,15 @@ says_by : (names : Option Files) (words : List (List ℕ)) (reply : Reply) (was 
     Grows was now (text_of reply) → SaysProof names words (status_of reply) was now
 says_by names words NoCommand was now due prove good text = absurd (two 2 refl good)
 says_by names words (ModelRefused refusal) was now due prove good text = absurd (three 3 refl good)
-says_by names words (AcceptedReply claim) was now due prove good text = absurd (prove_is_no_check words due.model due.log prove due.asked)
-says_by names words (Unread refusal) was now due prove good text = absurd (prove_is_no_check words due.model due.log prove due.asked)
-says_by names words (Refused refusal told) was now due prove good text = absurd (prove_is_no_check words due.model due.log prove due.asked)
-says_by names words (ShownLog shown) was now due prove good text = absurd (prove_is_no_show words due.log prove due.asked)
-says_by names words (Processed o) was now due prove good text = absurd (prove_is_no_process words due.model due.scaffold due.out prove due.asked)
+says_by names words (AcceptedReply claim) was now due prove good text = absurd (check_proves_not words (due.model, due.log, due.asked) prove)
+says_by names words (Unread refusal) was now due prove good text = absurd (check_proves_not words (due.model, due.log, due.asked) prove)
+says_by names words (Refused refusal told) was now due prove good text = absurd (check_proves_not words (due.model, due.log, due.asked) prove)
+says_by names words (ShownLog shown) was now due prove good text = absurd (show_proves_not words (due.log, due.asked) prove)
+says_by names words (Processed o) was now due prove good text = absurd (process_proves_not words (due.model, due.scaffold, due.out, due.workers, due.asked) prove)
+says_by names words (Generated family) was now due prove good text = absurd (gen_proves_not words (due.n, due.model, due.scaffold, due.asked) prove)
 says_by names words (Proved told) was now due prove good text = record {
   model = due.model;
+  workers = due.workers;
   most = due.most;
   asked = due.asked;
   m = due.m;
@@ -259,12 +262,13 @@ accepted_zero p text v end h e = zero_one 0 refl (subst (λ (q : Proof). proving
     zero_one : (n : ℕ) → n ≡ 0 → n ≡ 1 → ⊥
     zero_one n e f = omega (arith, e, f)
 
-limit_by : (names : Option Files) (words : List (List ℕ)) (model : List ℕ) (most : ℕ) (m : Plan) (o : Outcome) (found : Finds (problem_of m) most o) (claim : Option Verdict) (end : Proof) →
-    Spells (Prove model most) words → IsGiven names model m → found.claim ≡ claim → IsEnding m (problem_of m) o found.nogoods claim end → IsProven m (problem_of m) o found.nogoods claim end →
+limit_by : (names : Option Files) (words : List (List ℕ)) (model : List ℕ) (workers most : ℕ) (m : Plan) (o : Outcome) (found : Finds (problem_of m) most o) (claim : Option Verdict) (end : Proof) →
+    Spells (Prove model workers most) words → IsGiven names model m → found.claim ≡ claim → IsEnding m (problem_of m) o found.nogoods claim end → IsProven m (problem_of m) o found.nogoods claim end →
     proving_status (proving_of (problem_of m) end) ≡ 1 → PassesLimit names words
-limit_by names words model most m o found None end asked given is ending proven e = absurd (not_one m (problem_of m) o end ending e)
-limit_by names words model most m o found (Some claim) end asked given is ending proven e = record {
+limit_by names words model workers most m o found None end asked given is ending proven e = absurd (not_one m (problem_of m) o end ending e)
+limit_by names words model workers most m o found (Some claim) end asked given is ending proven e = record {
   model = model;
+  workers = workers;
   most = most;
   asked = asked;
   m = m;
@@ -280,13 +284,14 @@ passes_limit : (names : Option Files) (words : List (List ℕ)) (reply : Reply) 
 passes_limit names words NoCommand due prove e = absurd cc
 passes_limit names words (ModelRefused refusal) due prove e = absurd cc
 passes_limit names words (AcceptedReply claim) due prove e = absurd cc
-passes_limit names words (Unread refusal) due prove e = absurd (prove_is_no_check words due.model due.log prove due.asked)
-passes_limit names words (Refused refusal told) due prove e = absurd (prove_is_no_check words due.model due.log prove due.asked)
-passes_limit names words (ShownLog shown) due prove e = absurd (prove_is_no_show words due.log prove due.asked)
-passes_limit names words (Processed o) due prove e = absurd (prove_is_no_process words due.model due.scaffold due.out prove due.asked)
+passes_limit names words (Unread refusal) due prove e = absurd (check_proves_not words (due.model, due.log, due.asked) prove)
+passes_limit names words (Refused refusal told) due prove e = absurd (check_proves_not words (due.model, due.log, due.asked) prove)
+passes_limit names words (ShownLog shown) due prove e = absurd (show_proves_not words (due.log, due.asked) prove)
+passes_limit names words (Processed o) due prove e = absurd (process_proves_not words (due.model, due.scaffold, due.out, due.workers, due.asked) prove)
+passes_limit names words (Generated family) due prove e = absurd cc
 passes_limit names words (Proved told) due prove e =
     let h = due.proves.proves in
-    limit_by names words due.model due.most due.m h.outcome h.found h.found.claim due.proves.end due.asked due.given refl h.ending h.proven
+    limit_by names words due.model due.workers due.most due.m h.outcome h.found h.found.claim due.proves.end due.asked due.given refl h.ending h.proven
     (subst (λ (t : Proving). proving_status t ≡ 1) due.proves.told e)
 
 -- a proof is refused only where a limit is passed

@@ -14,7 +14,7 @@ use Rattle.dp_command.specs.Proved.{FilesProof, SaysTruth}
 use Rattle.dp_command.specs.Replies.{Replies}
 use Rattle.dp_command.specs.Solving.{IsSolved}
 use Rattle.dp_command.specs.Texts.{file_of, outcome_file, outcome_status, proving_status, read_fault, shown_status, status_of, text_of}
-use Rattle.dp_command.specs.Words.{Request, Check, Show, Process, Solve, Prove, IsCheck, IsProcess, IsSolve}
+use Rattle.dp_command.specs.Words.{Request, Check, Show, Process, Solve, Prove, Gen, IsCheck, IsProcess, IsSolve}
 use Rattle.dp_command.specs.declared.outcome.Outcome.{Outcome}
 use Rattle.dp_command.specs.declared.outcome.Outcome.TheVariants as outcome
 use Rattle.dp_command.specs.declared.proving.Proving.{Proving}
@@ -256,9 +256,9 @@ filed_said names words was now r said process e = proof_of names words said.repl
 still_at_end : (request : Request) (middle : Sight) (first answer : Channel) → AreAtEnd request middle → AreAtEnd request (with_output Out.Answer answer (with_output Out.First first middle))
 still_at_end (Check model log) middle first answer h = h
 still_at_end (Show log) middle first answer h = h
-still_at_end (Process model scaffold out) middle first answer h = h
+still_at_end (Process model scaffold out workers) middle first answer h = h
 still_at_end (Solve model out most) middle first answer h = h
-still_at_end (Prove model most) middle first answer h = h
+still_at_end (Prove model workers most) middle first answer h = h
 
 -- what was read to its end before the outputs is so behind them
 pub still_read : (words : List (List ℕ)) (middle now : Sight) → now ≡ with_output Out.Answer now.answer (with_output Out.First now.first middle) → ReadsToEnd words middle → ReadsToEnd words now
@@ -286,9 +286,9 @@ left_said words was middle now same l = record {
     left_by None was middle now e f h = h
     left_by (Some (Check model log)) was middle now e f h = h
     left_by (Some (Show log)) was middle now e f h = e ∙ h
-    left_by (Some (Process model scaffold out)) was middle now e f h = h
+    left_by (Some (Process model scaffold out workers)) was middle now e f h = h
     left_by (Some (Solve model out most)) was middle now e f h = f ∙ h
-    left_by (Some (Prove model most)) was middle now e f h = f ∙ h
+    left_by (Some (Prove model workers most)) was middle now e f h = f ∙ h
 
 -- so it is behind the answer alone
 pub left_told : (words : List (List ℕ)) (was middle now : Sight) → now ≡ with_output Out.Answer now.answer middle → Leaves words was middle → Leaves words was now

@@ -10,11 +10,11 @@ use Rattle.dp_solver.specs.declared.outcome.Outcome.TheVariants.{Solution, Unsat
 use Rattle.fz_model.specs.Models.{Plan}
 use Rattle.fz_solve.specs.Printed.{outcome_status, outcome_text}
 use Rattle.fz_solve.specs.Solved.{FilesFront, Solved, SolvedPart, SolvesFront}
-use Rattle.dp_command.proofs.Requests.{solve_is_no_show}
+use Rattle.dp_command.proofs.Requests.{gen_solves_not, show_solves_not}
 use Rattle.dp_command.specs.Due.{AreAtEnd, ChangesInputs, ReadsToEnd}
 use Rattle.dp_command.specs.Solving.{IsSolved, SolvesModel, SolvesModelPart}
 use Rattle.dp_command.specs.Tasks.{IsSearched, Searches}
-use Rattle.dp_command.specs.Words.{Request, Check, Show, Process, Solve, Prove, Spells, IsSolve}
+use Rattle.dp_command.specs.Words.{Request, Check, Show, Process, Solve, Prove, Gen, Spells, IsSolve}
 use Rattle.dp_command.specs.declared.task.Search.{Search}
 
 -- ---- the status
@@ -73,10 +73,11 @@ searched_words names words search s = (s.name, string_bytes search.out, search.c
 -- what was read to its end, where a solve was asked for, is the model
 model_ended : (request : Request) (words : List (List ℕ)) (now : Sight) → Spells request words → AreAtEnd request now → IsSolve words → IsAtEnd now.model
 model_ended (Check model log) words now e h solve = h.0
-model_ended (Show log) words now e h solve = absurd (solve_is_no_show words log solve e)
-model_ended (Process model scaffold out) words now e h solve = h.0
+model_ended (Show log) words now e h solve = absurd (show_solves_not words (log, e) solve)
+model_ended (Process model scaffold out workers) words now e h solve = h.0
 model_ended (Solve model out most) words now e h solve = h
-model_ended (Prove model most) words now e h solve = h
+model_ended (Prove model workers most) words now e h solve = h
+model_ended (Gen n model scaffold) words now e h solve = absurd (gen_solves_not words (n, model, scaffold, e) solve)
 
 -- ---- behind the reading
 

@@ -10,7 +10,7 @@ use Rattle.dp_command.specs.Promises.{Touches, Uses}
 use Rattle.dp_command.specs.Replies.{Replies}
 use Rattle.dp_command.specs.Solving.{IsReplied}
 use Rattle.dp_command.specs.Texts.{outcome_status, proving_status, shown_status, status_of}
-use Rattle.dp_command.specs.Words.{Request, Check, Show, Process, Solve, Prove, AreNoCommand, IsAsked, IsCheck, IsProcess, IsProve, IsShow, IsSolve, Spells}
+use Rattle.dp_command.specs.Words.{Request, Check, Show, Process, Solve, Prove, Gen, AreNoCommand, IsAsked, IsCheck, IsProcess, IsProve, IsShow, IsSolve, Spells}
 use Rattle.dp_command.specs.declared.outcome.Outcome.{Outcome}
 use Rattle.dp_command.specs.declared.outcome.Outcome.TheVariants as outcome
 use Rattle.dp_command.specs.declared.proving.Proving.{Proving}
@@ -39,7 +39,7 @@ pub process_solves_not : (words : List (List ℕ)) → IsProcess words → IsSol
 process_solves_not words (model, scaffold, out, process) solve = solve_is_no_process words model scaffold out solve process
 
 none_processes : (words : List (List ℕ)) → AreNoCommand words → IsProcess words → ⊥
-none_processes words none (model, scaffold, out, process) = none (Process model scaffold out) process
+none_processes words none (model, scaffold, out, process) = none (Process model scaffold out workers) process
 
 none_solves : (words : List (List ℕ)) → AreNoCommand words → IsSolve words → ⊥
 none_solves words none (model, out, most, solve) = none (Solve model out most) solve
@@ -115,9 +115,9 @@ model_ended words now read other = by_request read.request words now read.asked 
     by_request : (request : Request) (words : List (List ℕ)) (now : Sight) → Spells request words → AreAtEnd request now → (IsShow words → ⊥) → IsAtEnd now.model
     by_request (Check model log) words now e h other = h.0
     by_request (Show log) words now e h other = absurd (other (log, e))
-    by_request (Process model scaffold out) words now e h other = h.0
+    by_request (Process model scaffold out workers) words now e h other = h.0
     by_request (Solve model out most) words now e h other = h
-    by_request (Prove model most) words now e h other = h
+    by_request (Prove model workers most) words now e h other = h
 
 -- so was a log or a scaffold
 log_ended : (words : List (List ℕ)) (now : Sight) → ReadsToEnd words now → (IsSolve words → ⊥) → (IsProve words → ⊥) → IsAtEnd now.log
@@ -126,9 +126,9 @@ log_ended words now read solve prove = by_request read.request words now read.as
     by_request : (request : Request) (words : List (List ℕ)) (now : Sight) → Spells request words → AreAtEnd request now → (IsSolve words → ⊥) → (IsProve words → ⊥) → IsAtEnd now.log
     by_request (Check model log) words now e h solve prove = h.1
     by_request (Show log) words now e h solve prove = h
-    by_request (Process model scaffold out) words now e h solve prove = h.1
+    by_request (Process model scaffold out workers) words now e h solve prove = h.1
     by_request (Solve model out most) words now e h solve prove = absurd (solve (model, out, most, e))
-    by_request (Prove model most) words now e h solve prove = absurd (prove (model, most, e))
+    by_request (Prove model workers most) words now e h solve prove = absurd (prove (model, most, e))
 
 module _ (words : List (List ℕ)) (r : ℕ) (was now : Sight) (ended : r ≡ 0 → ReadsToEnd words now) (unread : r ≡ 3 → now.log ≡ was.log)
     (other : (IsProcess words → ⊥) → (IsSolve words → ⊥) → now.first ≡ was.first) (unfiled : r ≢ 0 → r ≢ 6 → (IsSolve words → (r ≢ 4) × (r ≢ 7)) → now.first ≡ was.first) where
@@ -147,7 +147,7 @@ module _ (words : List (List ℕ)) (r : ℕ) (was now : Sight) (ended : r ≡ 0 
         (λ e. log_ended words now (ended e) (show_solves_not words show) (show_proves_not words show), unread),
         other (show_processes_not words show) (show_solves_not words show),
       )
-  uses_of (Some (Process model scaffold out)) asked left none =
+  uses_of (Some (Process model scaffold out workers)) asked left none =
       let process : IsProcess words = (model, scaffold, out, asked) in (
         λ e. model_ended words now (ended e) (λ show. show_processes_not words show process),
         (λ e. log_ended words now (ended e) (process_solves_not words process) (process_proves_not words process), unread),
@@ -159,7 +159,7 @@ module _ (words : List (List ℕ)) (r : ℕ) (was now : Sight) (ended : r ≡ 0 
         left,
         λ done unknown fault memory. unfiled done fault (λ s. (unknown, memory)),
       )
-  uses_of (Some (Prove model most)) asked left none =
+  uses_of (Some (Prove model workers most)) asked left none =
       let prove : IsProve words = (model, most, asked) in (
         λ e. model_ended words now (ended e) (λ show. show_proves_not words show prove),
         left,

@@ -11,6 +11,7 @@ pub mod Truths
 pub mod Proving
 pub mod Proved
 pub mod Proven
+pub mod Families
 pub mod Found
 pub mod Solving
 pub mod Tasks

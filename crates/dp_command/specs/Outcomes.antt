@@ -50,14 +50,14 @@ pub record IsFailingOf (p : Csp) (s : Learned) (failing : Failing) : Type 0 wher
 -- test of a log refuses a line of what is written, nor are its bytes refused where no line is too long; and what it
 -- concludes, which is the scaffold's claim, is right of the problem.
 pub record IsDone (p : Csp) (out : List ℕ) (s : Learned) (done : Done) : Type 0 where
-  pub named : string_bytes done.out ≡ out
-  pub text : done.text ≡ steps.text_of (log_of p s)
+  pub named : string_bytes done.log.name ≡ out
+  pub text : done.log.text ≡ steps.text_of (log_of p s)
   pub kept : done.kept ≡ kept_count p s
   pub nogoods : done.nogoods ≡ length s.nogoods - 1
   pub steps : done.steps ≡ steps.count_of (log_of p s)
   pub follows : EachMetFollows (posed p) s.nogoods
   pub accepted : IsAccepted (posed p) (log_lines (log_of p s)) s.claim
-  pub checked : AreShort (log_lines (log_of p s)) done.text → judged_log (posed p) done.text ≡ Accepted s.claim
+  pub checked : AreShort (log_lines (log_of p s)) done.log.text → judged_log (posed p) done.log.text ≡ Accepted s.claim
   pub right : IsRight p s.claim
 
 -- ---- both

@@ -45,7 +45,8 @@ pub record FilesProof (names : Option Files) (words : List (List ℕ)) (now : Ch
   pub model : List ℕ
   pub scaffold : List ℕ
   pub out : List ℕ
-  pub asked : Spells (Process model scaffold out) words
+  pub workers : ℕ
+  pub asked : Spells (Process model scaffold out workers) words
   pub m : Plan
   pub given : IsGiven names model m
   pub lines : List ℕ

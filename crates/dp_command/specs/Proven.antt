@@ -47,8 +47,9 @@ IsTold m p outcome nogoods (Some claim) text status = IsChecked m p outcome (sca
 -- it was told.
 pub record SaysProof (names : Option Files) (words : List (List ℕ)) (status : ℕ) (was now : Channel) : Type 0 where
   pub model : List ℕ
+  pub workers : ℕ
   pub most : ℕ
-  pub asked : Spells (Prove model most) words
+  pub asked : Spells (Prove model workers most) words
   pub m : Plan
   pub given : IsGiven names model m
   pub outcome : Outcome
@@ -62,8 +63,9 @@ pub record SaysProof (names : Option Files) (words : List (List ℕ)) (status : 
 -- of it, passes a limit
 pub record PassesLimit (names : Option Files) (words : List (List ℕ)) : Type 0 where
   pub model : List ℕ
+  pub workers : ℕ
   pub most : ℕ
-  pub asked : Spells (Prove model most) words
+  pub asked : Spells (Prove model workers most) words
   pub m : Plan
   pub given : IsGiven names model m
   pub outcome : Outcome

@@ -12,16 +12,17 @@ use Rattle.dp_show.specs.declared.shown.Shown.{Shown}
 use Rattle.fz_items.specs.Answers.{model_text}
 use Rattle.fz_items.specs.declared.refusal.ModelRefusal.{ModelRefusal}
 use Rattle.fz_model.specs.Models.{Plan}
+use Rattle.dp_command.specs.Families.{GeneratesFamily}
 use Rattle.dp_command.specs.Inputs.{IsRead}
 use Rattle.dp_command.specs.Named.{claim_of}
 use Rattle.dp_command.specs.Outcomes.{IsOutcome}
 use Rattle.dp_command.specs.Proving.{IsProving}
 use Rattle.dp_command.specs.Truths.{IsTrueOf}
-use Rattle.dp_command.specs.Words.{Request, Check, Show, Process, Solve, Prove, Spells, AreNoCommand}
+use Rattle.dp_command.specs.Words.{Request, Check, Show, Process, Solve, Prove, Gen, Spells, AreNoCommand}
 use Rattle.dp_command.specs.declared.outcome.Outcome.{Outcome}
 use Rattle.dp_command.specs.declared.proving.Proving.{Proving}
 use Rattle.dp_command.specs.declared.reply.Reply.{Reply}
-use Rattle.dp_command.specs.declared.reply.Reply.TheVariants.{NoCommand, ModelRefused, Accepted, Unread, Refused, Shown as ShownLog, Processed, Proved}
+use Rattle.dp_command.specs.declared.reply.Reply.TheVariants.{NoCommand, ModelRefused, Accepted, Unread, Refused, Shown as ShownLog, Processed, Proved, Generated}
 
 -- so many bytes are read of a model at most: one more than its text may have
 abbrev pub most_of_model : ℕ
@@ -33,13 +34,14 @@ most_of_log = 2 ^ 40 + 1
 
 -- ---- the model
 
--- the name of the model that is asked for, if one is
+-- the name of the model that is to be read, if one is
 abbrev pub model_of : Request → Option (List ℕ)
 model_of (Check model log) = Some model
 model_of (Show log) = None
-model_of (Process model scaffold out) = Some model
+model_of (Process model scaffold out workers) = Some model
 model_of (Solve model out most) = Some model
-model_of (Prove model most) = Some model
+model_of (Prove model workers most) = Some model
+model_of (Gen n model scaffold) = None
 
 -- the words ask for a model, and what is read of it is refused so
 pub record RefusesModel (names : Option Files) (words : List (List ℕ)) (refusal : ModelRefusal) : Type 0 where
@@ -110,7 +112,8 @@ pub record ProcessesScaffold (names : Option Files) (words : List (List ℕ)) (o
   pub model : List ℕ
   pub scaffold : List ℕ
   pub out : List ℕ
-  pub asked : Spells (Process model scaffold out) words
+  pub workers : ℕ
+  pub asked : Spells (Process model scaffold out workers) words
   pub m : Plan
   pub given : IsGiven names model m
   pub processed : IsProcessed names scaffold out (problem_of m) o
@@ -120,8 +123,9 @@ pub record ProcessesScaffold (names : Option Files) (words : List (List ℕ)) (o
 -- the words ask to prove a model, which is read, and that ends so
 pub record ProvesModel (names : Option Files) (words : List (List ℕ)) (proving : Proving) : Type 0 where
   pub model : List ℕ
+  pub workers : ℕ
   pub most : ℕ
-  pub asked : Spells (Prove model most) words
+  pub asked : Spells (Prove model workers most) words
   pub m : Plan
   pub given : IsGiven names model m
   pub proves : IsProving m (problem_of m) most proving
@@ -135,6 +139,7 @@ Replies names words (ModelRefused refusal) = RefusesModel names words refusal
 Replies names words (ShownLog shown) = ShowsLog names words shown
 Replies names words (Processed o) = ProcessesScaffold names words o
 Replies names words (Proved proving) = ProvesModel names words proving
+Replies names words (Generated family) = GeneratesFamily words family
 Replies names words reply = JudgesLog names words reply
 
 -- the reply belongs to each spelling of what is asked for

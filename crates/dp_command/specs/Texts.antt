@@ -16,6 +16,7 @@ use Rattle.dp_show.specs.declared.shown.Shown.{Shown}
 use Rattle.fz_items.specs.Answers.{place_of}
 use Rattle.fz_items.specs.declared.refusal.ModelRefusal.{ModelRefusal}
 use Rattle.fz_items.specs.declared.refusal.ModelRefusal.TheVariants as model
+use Rattle.dp_command.specs.declared.generate.Family.{Family}
 use Rattle.dp_command.specs.declared.outcome.Done.{Done}
 use Rattle.dp_command.specs.declared.outcome.Failing.{Failing}
 use Rattle.dp_command.specs.declared.outcome.Outcome.{Outcome}
@@ -25,7 +26,7 @@ use Rattle.dp_command.specs.declared.proving.Proving.TheVariants as proving
 use Rattle.dp_command.specs.declared.reply.Claim.{Claim}
 use Rattle.dp_command.specs.declared.reply.Claim.TheVariants.{Unsat, Bound}
 use Rattle.dp_command.specs.declared.reply.Reply.{Reply}
-use Rattle.dp_command.specs.declared.reply.Reply.TheVariants.{NoCommand, ModelRefused, Accepted, Unread, Refused, Shown as ShownLog, Processed, Proved}
+use Rattle.dp_command.specs.declared.reply.Reply.TheVariants.{NoCommand, ModelRefused, Accepted, Unread, Refused, Shown as ShownLog, Processed, Proved, Generated}
 
 -- a line of text, with its end
 abbrev pub line : List ℕ → List ℕ
@@ -165,7 +166,7 @@ outcome_status (outcome.NotFollowing failing) = 1
 
 -- what it writes to a file, if anything
 abbrev pub outcome_file : Outcome → Option (List ℕ)
-outcome_file (outcome.Done done) = Some done.text
+outcome_file (outcome.Done done) = Some done.log.text
 outcome_file (outcome.Unread refusal) = None
 outcome_file (outcome.Refused refusal text) = None
 outcome_file (outcome.NotFollowing failing) = None
@@ -192,6 +193,17 @@ proving_status (proving.ScaffoldRefused refusal text) = 1
 proving_status (proving.NotFollowing number id) = 1
 proving_status (proving.LogRefused refusal text) = 1
 
+-- ---- what is generated
+
+-- the line that counts what is generated
+abbrev pub generated_line : ℕ → ℕ → ℕ → List ℕ
+generated_line variables constraints nogoods =
+    line (codes "generated: " ++ decimal variables ++ codes " variables, " ++ decimal constraints ++ codes " constraints, " ++ decimal nogoods ++ codes " nogoods")
+
+-- the text of a model and a scaffold that are generated
+abbrev pub family_text : Family → List ℕ
+family_text family = generated_line family.variables family.constraints family.nogoods
+
 -- ---- replies
 
 -- the text of a reply
@@ -204,6 +216,7 @@ text_of (Refused refusal text) = refused_text refusal text
 text_of (ShownLog shown) = shown_text shown
 text_of (Processed o) = outcome_text o
 text_of (Proved proved) = proving_text proved
+text_of (Generated family) = family_text family
 
 -- the status of a log that is shown: whether all of it is
 abbrev pub shown_status : Option Refusal → ℕ
@@ -220,17 +233,39 @@ status_of (Refused refusal text) = 1
 status_of (ShownLog shown) = shown_status shown.refusal
 status_of (Processed o) = outcome_status o
 status_of (Proved proved) = proving_status proved
+status_of (Generated family) = 0
 
--- what a reply writes to a file, if anything
-abbrev pub file_of : Reply → Option (List ℕ)
-file_of NoCommand = None
-file_of (ModelRefused refusal) = None
-file_of (Accepted claim) = None
-file_of (Unread refusal) = None
-file_of (Refused refusal text) = None
-file_of (ShownLog shown) = None
-file_of (Processed o) = outcome_file o
-file_of (Proved proved) = None
+-- what a reply writes to the first file, if anything
+abbrev pub first_of : Reply → Option (List ℕ)
+first_of NoCommand = None
+first_of (ModelRefused refusal) = None
+first_of (Accepted claim) = None
+first_of (Unread refusal) = None
+first_of (Refused refusal text) = None
+first_of (ShownLog shown) = None
+first_of (Processed o) = outcome_file o
+first_of (Proved proved) = None
+first_of (Generated family) = Some family.model.text
+
+-- and to the second
+abbrev pub second_of : Reply → Option (List ℕ)
+second_of NoCommand = None
+second_of (ModelRefused refusal) = None
+second_of (Accepted claim) = None
+second_of (Unread refusal) = None
+second_of (Refused refusal text) = None
+second_of (ShownLog shown) = None
+second_of (Processed o) = None
+second_of (Proved proved) = None
+second_of (Generated family) = Some family.scaffold.text
+
+-- what is written to the two files, if anything
+abbrev pub Filed : Type 0
+Filed = Option (List ℕ) × Option (List ℕ)
+
+-- what a reply writes to them
+abbrev pub files_of : Reply → Filed
+files_of reply = (first_of reply, second_of reply)
 
 -- the text where an input could not be read
 abbrev pub read_fault : List ℕ

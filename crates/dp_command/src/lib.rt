@@ -3,6 +3,7 @@
 
 mod check;
 mod finding;
+mod generate;
 mod judging;
 mod naming;
 mod outcome;

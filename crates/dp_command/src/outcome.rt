@@ -11,13 +11,20 @@ use dp_lines::LineRefusal;
 use dp_scaffold::{GatherWhy, ScaffoldRefusal};
 use std::alloc::Global;
 
+/// A text that is to be written to a file.
+#[derive(Debug, Drop)]
+pub(crate) struct File {
+    /// The name of the file.
+    pub(crate) name: String,
+    /// What is to be written.
+    pub(crate) text: Text,
+}
+
 /// A processed log that is to be written to a file.
 #[derive(Debug, Drop)]
 pub(crate) struct Done {
-    /// The name of the file.
-    pub(crate) out: String,
-    /// What is to be written.
-    pub(crate) text: Text,
+    /// The log.
+    pub(crate) log: File,
     /// How many of the nogoods are kept.
     pub(crate) kept: u64,
     /// How many nogoods there are, without the conclusion.
@@ -74,11 +81,11 @@ impl Outcome {
     }
 
     /// What is to be written to a file.
-    pub(crate) fn file(&self) -> Option<&Done>
-        ensures { option_map (λ done. done.now.text) result ≡ texts.outcome_file self.now }
+    pub(crate) fn file(&self) -> Option<&File>
+        ensures { option_map (λ file. file.now.text) result ≡ texts.outcome_file self.now }
     {
         match self {
-            Outcome::Done(done) => Some(done),
+            Outcome::Done(done) => Some(&done.log),
             Outcome::Unread(_) | Outcome::Refused(..) | Outcome::NotFollowing(_) => None,
         }
     }

@@ -23,7 +23,7 @@ use crate::Trouble;
 use crate::finding::{Found, read_problem};
 use crate::judging::judge_read;
 use crate::naming::{claim_of, push_conjunction};
-use crate::outcome::{Done, Failing, Outcome};
+use crate::outcome::{Done, Failing, File, Outcome};
 use crate::reading::MOST_OF_LOG;
 use crate::reply::{Reply, push_claim};
 use dp_base::{Memory, Text};
@@ -40,11 +40,12 @@ pub(crate) fn process<D: Desk>(
     model: &str,
     scaffold: &str,
     out: &str,
+    workers: u32,
     desk: &mut D,
 ) -> Result<Reply, Trouble>
-    ensures due { IfOk result (λ reply. RepliesTo (D.sight desk.old).names (Process model.now scaffold.now out.now) reply) }
-    ensures ended { IfOk result (λ reply. status_of reply ≡ 0 → AreAtEnd (Process model.now scaffold.now out.now) (D.sight desk.new)) }
-    ensures patient { IsErrOf result ReadFault → HasPatience (D.sight desk.old).names (Process model.now scaffold.now out.now) (D.sight desk.old).log (D.sight desk.new).log }
+    ensures due { IfOk result (λ reply. RepliesTo (D.sight desk.old).names (Process model.now scaffold.now out.now workers) reply) }
+    ensures ended { IfOk result (λ reply. status_of reply ≡ 0 → AreAtEnd (Process model.now scaffold.now out.now workers) (D.sight desk.new)) }
+    ensures patient { IsErrOf result ReadFault → HasPatience (D.sight desk.old).names (Process model.now scaffold.now out.now workers) (D.sight desk.old).log (D.sight desk.new).log }
     ensures unread { IfOk result (λ reply. LeavesUnread reply (D.sight desk.old) (D.sight desk.new)) }
     ensures rest { ChangesInputs (D.sight desk.old) (D.sight desk.new) }
     ensures cause { HasReadCause (D.faults_in desk.old) (D.faults_in desk.new) result }
@@ -109,8 +110,10 @@ fn process_scaffold(
     match dp_process::process(alloc, problem, scaffold) {
         Ok(processed) => {
             let done = Done {
-                out: String::from_str(alloc, out)?,
-                text: processed.text,
+                log: File {
+                    name: String::from_str(alloc, out)?,
+                    text: processed.text,
+                },
                 kept: processed.kept,
                 nogoods: nogood_count(scaffold),
                 steps: processed.steps,

@@ -5,7 +5,7 @@ ghost use Rattle.dp_desk.specs.Channel.{Grows};
 ghost use Rattle.dp_desk.specs.Causes.{Rose};
 ghost use Rattle.dp_command.specs.Asked.{asked};
 ghost use Rattle.dp_command.specs.Patience.{HasPatience, WasPatient};
-ghost use Rattle.dp_command.specs.Words.{IsInRange, IsProcess, IsSolve};
+ghost use Rattle.dp_command.specs.Words.{IsGen, IsInRange, IsProcess, IsSolve};
 ghost use Rattle.dp_command.specs.declared.trouble.Trouble.TheVariants.{ReadFault};
 ghost use Rattle.dp_command.specs.Inputs.{HasReadCause};
 ghost use Rattle.dp_command.specs.Due.{Said, SaidPart, ChangesInputs, ChangesOutputs, Leaves, LeavesUnasked, AreAtEnd, ReadsToEnd};
@@ -15,6 +15,7 @@ ghost use Rattle.dp_command.specs.Tasks.{IfGood, IsTask, IsTaskTo, LeavesUnreadB
 ghost use Rattle.dp_command.specs.Texts.{read_fault};
 
 use crate::check::check;
+use crate::generate::generate;
 use crate::process::process;
 use crate::prove::prove;
 use crate::reply::Reply;
@@ -31,12 +32,13 @@ use std::alloc::Global;
 ///
 /// The words are judged first, then the model, then the log or the scaffold, line by line while it is read: a refusal
 /// at a line comes before a later read. A log is shown without a model, and a model
-/// is solved and proved without a log. Status 0 comes where the log is accepted or shown to its end, the scaffold is
-/// processed or the model is solved or proved, 1 where it is refused, 2 where the words are no command, 3 where the model
+/// is solved and proved without a log; a model and a scaffold are generated without an input. Status 0 comes where the log
+/// is accepted or shown to its end, the scaffold is processed, the model is solved or proved or is generated, 1 where it is refused, 2 where the words are no command, 3 where the model
 /// is refused, 4 where the most nogoods were learned, 5 and 6 where an input and where an output failed, and 7 for want
 /// of memory. At each status but 7 a text is written as the answer. The processed log is opened and written only where
 /// nothing but a write can fail, before the answer; the scaffold of a model that is solved is opened where the model is
-/// not refused, and is written while it is solved; a model is proved without a file.
+/// not refused, and is written while it is solved; a model is proved without a file. A generated model is opened and written,
+/// then its scaffold, then the answer.
 pub fn run<D: Desk>(alloc: Global, words: &[&str], desk: &mut D) -> u8
     // Which status, which file and which text.
     ensures answered { let texts = map (λ w. w.now) words.now in Answers (D.sight desk.old).names texts result (D.sight desk.old) (D.sight desk.new) }
@@ -59,8 +61,10 @@ fn perform<D: Desk>(alloc: Global, words: &[&str], desk: &mut D) -> u8
     ensures ended { let texts = map (λ w. w.now) words.now in result ≡ 0 → ReadsToEnd texts (D.sight desk.new) }
     ensures unread_log { result ≡ 3 → (D.sight desk.new).log ≡ (D.sight desk.old).log }
     ensures unasked { let texts = map (λ w. w.now) words.now in Leaves texts (D.sight desk.old) (D.sight desk.new) }
-    ensures unfiled_words { let texts = map (λ w. w.now) words.now in (IsProcess texts → ⊥) → (IsSolve texts → ⊥) → (D.sight desk.new).first ≡ (D.sight desk.old).first }
+    ensures unfiled_words { let texts = map (λ w. w.now) words.now in (IsProcess texts → ⊥) → (IsSolve texts → ⊥) → (IsGen texts → ⊥) → (D.sight desk.new).first ≡ (D.sight desk.old).first }
     ensures unfiled { let texts = map (λ w. w.now) words.now in result ≢ 0 → result ≢ 6 → (IsSolve texts → result ≢ 4 × (result ≢ 7)) → (D.sight desk.new).first ≡ (D.sight desk.old).first }
+    ensures second_words { let texts = map (λ w. w.now) words.now in (IsGen texts → ⊥) → (D.sight desk.new).second ≡ (D.sight desk.old).second }
+    ensures second_unfiled { result ≢ 0 → result ≢ 6 → (D.sight desk.new).second ≡ (D.sight desk.old).second }
     ensures read_fault { result ≡ 5 → Rose (D.faults_in desk.old) (D.faults_in desk.new) × Grows (D.sight desk.old).answer (D.sight desk.new).answer read_fault }
     ensures write_fault { result ≡ 6 → Rose (D.faults_out desk.old) (D.faults_out desk.new) }
     ensures patient { let texts = map (λ w. w.now) words.now in result ≡ 5 → WasPatient (D.sight desk.old).names texts (D.sight desk.old).log (D.sight desk.new).log }
@@ -123,14 +127,21 @@ fn obey<D: Desk>(alloc: Global, command: Command<'_>, desk: &mut D) -> Result<Ta
             model,
             scaffold,
             out,
-        } => Ok(Task::Say(process(alloc, model, scaffold, out, desk)?)),
+            workers,
+        } => Ok(Task::Say(process(alloc, model, scaffold, out, workers, desk)?)),
         Command::Solve {
             model,
             out,
             conflicts,
         } => solve(alloc, model, out, conflicts, desk),
-        Command::Prove { model, conflicts } => {
-            Ok(Task::Say(prove(alloc, model, conflicts, desk)?))
+        Command::Prove {
+            model,
+            workers,
+            conflicts,
+        } => Ok(Task::Say(prove(alloc, model, workers, conflicts, desk)?)),
+        Command::Gen { n, model, scaffold } => {
+            let family = generate(alloc, n, model, scaffold)?;
+            Ok(Task::Say(Reply::Generated(family)))
         }
     }
 }

@@ -26,13 +26,14 @@ use std::alloc::Global;
 pub(crate) fn prove<D: Desk>(
     alloc: Global,
     model: &str,
+    workers: u32,
     conflicts: u64,
     desk: &mut D,
 ) -> Result<Reply, Trouble>
     requires some { 1 ≤ conflicts }
     requires few { conflicts ≤ 4000000000 }
-    ensures due { IfOk result (λ reply. RepliesTo (D.sight desk.old).names (Prove model.now conflicts) reply) }
-    ensures ended { IfOk result (λ reply. status_of reply ≡ 0 → AreAtEnd (Prove model.now conflicts) (D.sight desk.new)) }
+    ensures due { IfOk result (λ reply. RepliesTo (D.sight desk.old).names (Prove model.now workers conflicts) reply) }
+    ensures ended { IfOk result (λ reply. status_of reply ≡ 0 → AreAtEnd (Prove model.now workers conflicts) (D.sight desk.new)) }
     ensures unread { IfOk result (λ reply. LeavesUnread reply (D.sight desk.old) (D.sight desk.new)) }
     ensures rest { D.sight desk.new ≡ with_input In.Model (D.sight desk.new).model (D.sight desk.old) }
     ensures cause { HasReadCause (D.faults_in desk.old) (D.faults_in desk.new) result }

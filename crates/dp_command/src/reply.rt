@@ -6,7 +6,8 @@ ghost use Rattle.fz_items.specs.Answers.{place_of};
 ghost use Rattle.dp_command.specs.Texts as texts;
 ghost use Rattle.std.specs.Option.{option_map};
 
-use crate::outcome::{Done, Outcome};
+use crate::generate::{Family, family_text};
+use crate::outcome::{File, Outcome};
 use crate::proving::Proving;
 use dp_base::{Memory, Name, Text};
 use dp_checker::{StepRefusal, Why};
@@ -44,6 +45,8 @@ pub(crate) enum Reply {
     Processed(Outcome),
     /// Proving the model ends so.
     Proved(Proving),
+    /// This is generated.
+    Generated(Family),
 }
 
 impl Reply {
@@ -54,7 +57,7 @@ impl Reply {
         match self {
             Reply::NoCommand => 2,
             Reply::ModelRefused(_) => 3,
-            Reply::Accepted(_) => 0,
+            Reply::Accepted(_) | Reply::Generated(_) => 0,
             Reply::Unread(_) | Reply::Refused(..) => 1,
             Reply::Shown(shown) => shown_status(shown),
             Reply::Processed(outcome) => outcome.status(),
@@ -75,12 +78,13 @@ impl Reply {
             Reply::Shown(shown) => shown_text(alloc, shown),
             Reply::Processed(outcome) => outcome.text(alloc),
             Reply::Proved(proving) => proving.text(alloc),
+            Reply::Generated(family) => family_text(alloc, family),
         }
     }
 
-    /// What is to be written to a file.
-    pub(crate) fn file(&self) -> Option<&Done>
-        ensures { option_map (λ done. done.now.text) result ≡ texts.file_of self.now }
+    /// What is to be written to the first file.
+    pub(crate) fn first(&self) -> Option<&File>
+        ensures { option_map (λ file. file.now.text) result ≡ texts.first_of self.now }
     {
         match self {
             Reply::NoCommand
@@ -91,6 +95,24 @@ impl Reply {
             | Reply::Shown(_)
             | Reply::Proved(_) => None,
             Reply::Processed(outcome) => outcome.file(),
+            Reply::Generated(family) => Some(&family.model),
+        }
+    }
+
+    /// What is to be written to the second file.
+    pub(crate) fn second(&self) -> Option<&File>
+        ensures { option_map (λ file. file.now.text) result ≡ texts.second_of self.now }
+    {
+        match self {
+            Reply::NoCommand
+            | Reply::ModelRefused(_)
+            | Reply::Accepted(_)
+            | Reply::Unread(_)
+            | Reply::Refused(..)
+            | Reply::Shown(_)
+            | Reply::Processed(_)
+            | Reply::Proved(_) => None,
+            Reply::Generated(family) => Some(&family.scaffold),
         }
     }
 }

@@ -3,7 +3,9 @@ use Rattle.std.proofs.Common.{sym, subst}
 use Rattle.dp_command.specs.Asked.{asked}
 use Rattle.dp_command.specs.Patience.{HasPatience}
 use Rattle.dp_command.specs.Replies.{RepliesTo}
+use Rattle.dp_command.specs.declared.reply.Reply.TheVariants.{Generated}
 use Rattle.dp_command.specs.declared.words.Command.{Command}
+use Rattle.dp_command.proofs.Families.{generated_at}
 use Rattle.dp_command.proofs.Patience.{handed_on}
 use Rattle.dp_command.proofs.program.obey.Goals as goal
 
@@ -22,6 +24,11 @@ returns-in_ok-process-in-Process-clause-due g c =
 pub returns-in_ok-prove-in-Prove-clause-due : goal.returns-in_ok-prove-in-Prove-clause-due
 returns-in_ok-prove-in-Prove-clause-due g c =
     subst (λ (k : Command). RepliesTo (g.D.Desk.sight c.args.desk.now).names (asked k) c.in_ok-prove-in-Prove.field-0) (sym c.in-Prove.is) c.in_ok-prove-in-Prove.ensures.due
+
+pub returns-in_ok-family-in-Gen-clause-due : goal.returns-in_ok-family-in-Gen-clause-due
+returns-in_ok-family-in-Gen-clause-due g c =
+    subst (λ (k : Command). RepliesTo (g.D.Desk.sight c.args.desk.now).names (asked k) (Generated c.in_ok-family-in-Gen.family)) (sym c.in-Gen.is)
+    (generated_at (g.D.Desk.sight c.args.desk.now).names c.in-Gen.n c.in-Gen.model.now c.in-Gen.scaffold.now c.in_ok-family-in-Gen.family c.in_ok-family-in-Gen.ensures)
 
 -- ---- a read fault that is handed on
 
