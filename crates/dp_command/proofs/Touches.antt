@@ -4,45 +4,30 @@ use Rattle.std.proofs.Common.{refl, sym, ◌∙◌, arith}
 use Rattle.dp_desk.specs.Channel.{Files, IsAtEnd}
 use Rattle.dp_desk.specs.Sight.{Sight}
 use Rattle.dp_show.specs.declared.shown.Refusal.{Refusal as ShowRefusal}
-use Rattle.dp_command.proofs.Requests.{check_proves_not, process_is_no_check, process_proves_not, show_is_no_check, show_is_no_process, show_proves_not, solve_is_no_check, solve_is_no_process, solve_is_no_show, solve_proves_not}
+use Rattle.dp_command.proofs.Requests.{check_processes_not, check_proves_not, check_shows_not, check_solves_not, gen_checks_not, gen_processes_not, gen_proves_not, gen_shows_not, gen_solves_not, process_proves_not, process_solves_not, show_processes_not, show_proves_not, show_solves_not, solve_proves_not}
 use Rattle.dp_command.specs.Due.{AreAtEnd, ChangesOutputs, Leaves, LeavesUnasked, ReadsToEnd, Said}
 use Rattle.dp_command.specs.Promises.{Touches, Uses}
 use Rattle.dp_command.specs.Replies.{Replies}
 use Rattle.dp_command.specs.Solving.{IsReplied}
 use Rattle.dp_command.specs.Texts.{outcome_status, proving_status, shown_status, status_of}
-use Rattle.dp_command.specs.Words.{Request, Check, Show, Process, Solve, Prove, Gen, AreNoCommand, IsAsked, IsCheck, IsProcess, IsProve, IsShow, IsSolve, Spells}
+use Rattle.dp_command.specs.Words.{Request, Check, Show, Process, Solve, Prove, Gen, AreNoCommand, IsAsked, IsCheck, IsGen, IsProcess, IsProve, IsShow, IsSolve, Spells}
 use Rattle.dp_command.specs.declared.outcome.Outcome.{Outcome}
 use Rattle.dp_command.specs.declared.outcome.Outcome.TheVariants as outcome
 use Rattle.dp_command.specs.declared.proving.Proving.{Proving}
 use Rattle.dp_command.specs.declared.proving.Proving.TheVariants as proving
 use Rattle.dp_command.specs.declared.reply.Reply.{Reply}
-use Rattle.dp_command.specs.declared.reply.Reply.TheVariants.{NoCommand, ModelRefused, Accepted, Unread, Refused, Shown as ShownLog, Processed, Proved}
+use Rattle.dp_command.specs.declared.reply.Reply.TheVariants.{NoCommand, ModelRefused, Accepted, Unread, Refused, Shown as ShownLog, Processed, Proved, Generated}
 
--- ---- one command is not another
-
-check_shows_not : (words : List (List ℕ)) → IsCheck words → IsShow words → ⊥
-check_shows_not words check (log, show) = show_is_no_check words log check show
-
-pub check_solves_not : (words : List (List ℕ)) → IsCheck words → IsSolve words → ⊥
-check_solves_not words (model, log, check) solve = solve_is_no_check words model log solve check
-
-check_processes_not : (words : List (List ℕ)) → IsCheck words → IsProcess words → ⊥
-check_processes_not words check (model, scaffold, out, process) = process_is_no_check words model scaffold out check process
-
-show_processes_not : (words : List (List ℕ)) → IsShow words → IsProcess words → ⊥
-show_processes_not words (log, show) process = show_is_no_process words log process show
-
-show_solves_not : (words : List (List ℕ)) → IsShow words → IsSolve words → ⊥
-show_solves_not words (log, show) solve = solve_is_no_show words log solve show
-
-pub process_solves_not : (words : List (List ℕ)) → IsProcess words → IsSolve words → ⊥
-process_solves_not words (model, scaffold, out, process) solve = solve_is_no_process words model scaffold out solve process
+-- ---- words that are no command
 
 none_processes : (words : List (List ℕ)) → AreNoCommand words → IsProcess words → ⊥
-none_processes words none (model, scaffold, out, process) = none (Process model scaffold out workers) process
+none_processes words none (model, scaffold, out, workers, process) = none (Process model scaffold out workers) process
 
 none_solves : (words : List (List ℕ)) → AreNoCommand words → IsSolve words → ⊥
 none_solves words none (model, out, most, solve) = none (Solve model out most) solve
+
+none_gens : (words : List (List ℕ)) → AreNoCommand words → IsGen words → ⊥
+none_gens words none (n, model, scaffold, gen) = none (Gen n model scaffold) gen
 
 -- ---- the status of a reply
 
@@ -65,6 +50,7 @@ no_command_by names words (ModelRefused refusal) due e = absurd cc
 no_command_by names words (Accepted claim) due e = absurd cc
 no_command_by names words (Unread refusal) due e = absurd cc
 no_command_by names words (Refused refusal told) due e = absurd cc
+no_command_by names words (Generated family) due e = absurd cc
 no_command_by names words (ShownLog shown) due e = absurd (not_shown shown.refusal e)
   where
     not_shown : (refusal : Option ShowRefusal) → shown_status refusal ≡ 2 → ⊥
@@ -109,64 +95,89 @@ leaves_none words was none = record { command = None; asked = none; left = tt; n
 -- ---- the table
 
 -- a model that was asked for was read to its end
-model_ended : (words : List (List ℕ)) (now : Sight) → ReadsToEnd words now → (IsShow words → ⊥) → IsAtEnd now.model
-model_ended words now read other = by_request read.request words now read.asked read.ended other
+model_ended : (words : List (List ℕ)) (now : Sight) → ReadsToEnd words now → (IsShow words → ⊥) → (IsGen words → ⊥) → IsAtEnd now.model
+model_ended words now read show gen = by_request read.request words now read.asked read.ended show gen
   where
-    by_request : (request : Request) (words : List (List ℕ)) (now : Sight) → Spells request words → AreAtEnd request now → (IsShow words → ⊥) → IsAtEnd now.model
-    by_request (Check model log) words now e h other = h.0
-    by_request (Show log) words now e h other = absurd (other (log, e))
-    by_request (Process model scaffold out workers) words now e h other = h.0
-    by_request (Solve model out most) words now e h other = h
-    by_request (Prove model workers most) words now e h other = h
+    by_request : (request : Request) (words : List (List ℕ)) (now : Sight) → Spells request words → AreAtEnd request now → (IsShow words → ⊥) → (IsGen words → ⊥) → IsAtEnd now.model
+    by_request (Check model log) words now e h show gen = h.0
+    by_request (Show log) words now e h show gen = absurd (show (log, e))
+    by_request (Process model scaffold out workers) words now e h show gen = h.0
+    by_request (Solve model out most) words now e h show gen = h
+    by_request (Prove model workers most) words now e h show gen = h
+    by_request (Gen n model scaffold) words now e h show gen = absurd (gen (n, model, scaffold, e))
 
 -- so was a log or a scaffold
-log_ended : (words : List (List ℕ)) (now : Sight) → ReadsToEnd words now → (IsSolve words → ⊥) → (IsProve words → ⊥) → IsAtEnd now.log
-log_ended words now read solve prove = by_request read.request words now read.asked read.ended solve prove
+log_ended : (words : List (List ℕ)) (now : Sight) → ReadsToEnd words now → (IsSolve words → ⊥) → (IsProve words → ⊥) → (IsGen words → ⊥) → IsAtEnd now.log
+log_ended words now read solve prove gen = by_request read.request words now read.asked read.ended solve prove gen
   where
-    by_request : (request : Request) (words : List (List ℕ)) (now : Sight) → Spells request words → AreAtEnd request now → (IsSolve words → ⊥) → (IsProve words → ⊥) → IsAtEnd now.log
-    by_request (Check model log) words now e h solve prove = h.1
-    by_request (Show log) words now e h solve prove = h
-    by_request (Process model scaffold out workers) words now e h solve prove = h.1
-    by_request (Solve model out most) words now e h solve prove = absurd (solve (model, out, most, e))
-    by_request (Prove model workers most) words now e h solve prove = absurd (prove (model, most, e))
+    by_request : (request : Request) (words : List (List ℕ)) (now : Sight) → Spells request words → AreAtEnd request now → (IsSolve words → ⊥) → (IsProve words → ⊥) → (IsGen words → ⊥) → IsAtEnd now.log
+    by_request (Check model log) words now e h solve prove gen = h.1
+    by_request (Show log) words now e h solve prove gen = h
+    by_request (Process model scaffold out workers) words now e h solve prove gen = h.1
+    by_request (Solve model out most) words now e h solve prove gen = absurd (solve (model, out, most, e))
+    by_request (Prove model workers most) words now e h solve prove gen = absurd (prove (model, workers, most, e))
+    by_request (Gen n model scaffold) words now e h solve prove gen = absurd (gen (n, model, scaffold, e))
 
 module _ (words : List (List ℕ)) (r : ℕ) (was now : Sight) (ended : r ≡ 0 → ReadsToEnd words now) (unread : r ≡ 3 → now.log ≡ was.log)
-    (other : (IsProcess words → ⊥) → (IsSolve words → ⊥) → now.first ≡ was.first) (unfiled : r ≢ 0 → r ≢ 6 → (IsSolve words → (r ≢ 4) × (r ≢ 7)) → now.first ≡ was.first) where
+    (other : (IsProcess words → ⊥) → (IsSolve words → ⊥) → (IsGen words → ⊥) → now.first ≡ was.first) (unfiled : r ≢ 0 → r ≢ 6 → (IsSolve words → (r ≢ 4) × (r ≢ 7)) → now.first ≡ was.first)
+    (second : (IsGen words → ⊥) → now.second ≡ was.second) (second_unfiled : r ≢ 0 → r ≢ 6 → now.second ≡ was.second) where
   uses_of : (command : Option Request) → IsAsked command words → IfSome command (λ request. LeavesUnasked request was now) →
       (command ≡ None → (now.model ≡ was.model) × (now.log ≡ was.log)) → Uses command r was now
-  uses_of None asked left none = ((none refl).0, (none refl).1, other (none_processes words asked) (none_solves words asked))
+  uses_of None asked left none = (
+    (none refl).0,
+    (none refl).1,
+    other (none_processes words asked) (none_solves words asked) (none_gens words asked),
+    second (none_gens words asked),
+  )
   uses_of (Some (Check model log)) asked left none =
-      let check : IsCheck words = (model, log, asked) in (
-        λ e. model_ended words now (ended e) (check_shows_not words check),
-        (λ e. log_ended words now (ended e) (check_solves_not words check) (check_proves_not words check), unread),
-        other (check_processes_not words check) (check_solves_not words check),
+      let check : IsCheck words = (model, log, asked) in
+      let no_gen : (IsGen words → ⊥) = λ gen. gen_checks_not words gen check in (
+        λ e. model_ended words now (ended e) (check_shows_not words check) no_gen,
+        (λ e. log_ended words now (ended e) (check_solves_not words check) (check_proves_not words check) no_gen, unread),
+        other (check_processes_not words check) (check_solves_not words check) no_gen,
+        second no_gen,
       )
   uses_of (Some (Show log)) asked left none =
-      let show : IsShow words = (log, asked) in (
+      let show : IsShow words = (log, asked) in
+      let no_gen : (IsGen words → ⊥) = λ gen. gen_shows_not words gen show in (
         left,
-        (λ e. log_ended words now (ended e) (show_solves_not words show) (show_proves_not words show), unread),
-        other (show_processes_not words show) (show_solves_not words show),
+        (λ e. log_ended words now (ended e) (show_solves_not words show) (show_proves_not words show) no_gen, unread),
+        other (show_processes_not words show) (show_solves_not words show) no_gen,
+        second no_gen,
       )
   uses_of (Some (Process model scaffold out workers)) asked left none =
-      let process : IsProcess words = (model, scaffold, out, asked) in (
-        λ e. model_ended words now (ended e) (λ show. show_processes_not words show process),
-        (λ e. log_ended words now (ended e) (process_solves_not words process) (process_proves_not words process), unread),
+      let process : IsProcess words = (model, scaffold, out, workers, asked) in
+      let no_gen : (IsGen words → ⊥) = λ gen. gen_processes_not words gen process in (
+        λ e. model_ended words now (ended e) (λ show. show_processes_not words show process) no_gen,
+        (λ e. log_ended words now (ended e) (process_solves_not words process) (process_proves_not words process) no_gen, unread),
         λ done fault. unfiled done fault (λ solve. absurd (process_solves_not words process solve)),
+        second no_gen,
       )
   uses_of (Some (Solve model out most)) asked left none =
-      let solve : IsSolve words = (model, out, most, asked) in (
-        λ e. model_ended words now (ended e) (λ show. show_solves_not words show solve),
+      let solve : IsSolve words = (model, out, most, asked) in
+      let no_gen : (IsGen words → ⊥) = λ gen. gen_solves_not words gen solve in (
+        λ e. model_ended words now (ended e) (λ show. show_solves_not words show solve) no_gen,
         left,
         λ done unknown fault memory. unfiled done fault (λ s. (unknown, memory)),
+        second no_gen,
       )
   uses_of (Some (Prove model workers most)) asked left none =
-      let prove : IsProve words = (model, most, asked) in (
-        λ e. model_ended words now (ended e) (λ show. show_proves_not words show prove),
+      let prove : IsProve words = (model, workers, most, asked) in
+      let no_gen : (IsGen words → ⊥) = λ gen. gen_proves_not words gen prove in (
+        λ e. model_ended words now (ended e) (λ show. show_proves_not words show prove) no_gen,
         left,
-        other (λ process. process_proves_not words process prove) (λ solve. solve_proves_not words solve prove),
+        other (λ process. process_proves_not words process prove) (λ solve. solve_proves_not words solve prove) no_gen,
+        second no_gen,
+      )
+  uses_of (Some (Gen n model scaffold)) asked left none =
+      let gen : IsGen words = (n, model, scaffold, asked) in (
+        left.0,
+        left.1,
+        λ done fault. unfiled done fault (λ solve. absurd (gen_solves_not words gen solve)),
+        second_unfiled,
       )
 
-  -- the inputs and the outputs are used as the table says
+  -- the inputs and the files are used as the table says
   pub touches_of : (names : Option Files) → (IsReplied words r → Said names words r was now) → Leaves words was now → ChangesOutputs was now → Touches words r was now
   touches_of names answered l rest = record {
     command = l.command;

@@ -19,6 +19,7 @@ fn words_are_commands(rt: HostRuntime) -> Result<(), Fail> {
         model: "process",
         scaffold: "s",
         out: "m",
+        workers: 1,
     };
     assert_eq!(rt;
         read_words(&["process", "process", "s", "m"]),
@@ -55,11 +56,13 @@ fn a_number_of_nogoods_is_an_option(rt: HostRuntime) -> Result<(), Fail> {
     assert_eq!(rt; read_words(&["solve", "m", "o"]), Some(solve));
     let prove = Command::Prove {
         model: "--conflicts",
+        workers: 1,
         conflicts: 1_000_000,
     };
     assert_eq!(rt; read_words(&["prove", "--conflicts"]), Some(prove));
     let prove = Command::Prove {
         model: "process",
+        workers: 1,
         conflicts: 12,
     };
     assert_eq!(rt;
@@ -88,6 +91,87 @@ fn a_number_of_nogoods_is_an_option(rt: HostRuntime) -> Result<(), Fail> {
             None
         );
         assert_eq!(rt; read_words(&["prove", "m", "--conflicts", digits]), None);
+    }
+    Ok(())
+}
+
+#[test]
+fn a_number_of_workers_is_an_option(rt: HostRuntime) -> Result<(), Fail> {
+    for (digits, workers) in [("1", 1), ("0000000064", 64), ("64", 64), ("07", 7)] {
+        let process = Command::Process {
+            model: "m",
+            scaffold: "--workers",
+            out: "2",
+            workers,
+        };
+        assert_eq!(rt;
+            read_words(&["process", "m", "--workers", "2", "--workers", digits]),
+            Some(process)
+        );
+        let prove = Command::Prove {
+            model: "m",
+            workers,
+            conflicts: 9,
+        };
+        assert_eq!(rt;
+            read_words(&["prove", "m", "--workers", digits, "--conflicts", "9"]),
+            Some(prove)
+        );
+        assert_eq!(rt;
+            read_words(&["prove", "m", "--conflicts", "9", "--workers", digits]),
+            Some(prove)
+        );
+        let usual = Command::Prove {
+            model: "m",
+            workers,
+            conflicts: 1_000_000,
+        };
+        assert_eq!(rt;
+            read_words(&["prove", "m", "--workers", digits]),
+            Some(usual)
+        );
+    }
+    for digits in [
+        "",
+        "0",
+        "65",
+        "00000000001",
+        "4294967297",
+        "+1",
+        "-1",
+        "1 ",
+        "two",
+    ] {
+        assert_eq!(rt;
+            read_words(&["process", "m", "s", "o", "--workers", digits]),
+            None
+        );
+        assert_eq!(rt; read_words(&["prove", "m", "--workers", digits]), None);
+    }
+    Ok(())
+}
+
+#[test]
+fn a_size_is_asked_for(rt: HostRuntime) -> Result<(), Fail> {
+    for (digits, n) in [("1", 1), ("0000005000", 5000), ("0012", 12)] {
+        let wanted = Command::Gen {
+            n,
+            model: "gen",
+            scaffold: "s",
+        };
+        assert_eq!(rt; read_words(&["gen", digits, "gen", "s"]), Some(wanted));
+    }
+    for digits in [
+        "",
+        "0",
+        "5001",
+        "00000000001",
+        "4294967297",
+        "+1",
+        "-1",
+        "1.0",
+    ] {
+        assert_eq!(rt; read_words(&["gen", digits, "m", "s"]), None);
     }
     Ok(())
 }
@@ -127,6 +211,21 @@ fn words_are_judged_first(rt: HostRuntime) -> Result<(), Fail> {
         &["process", "m", "l"],
         &["process", "m", "l", "o", "x"],
         &["Process", "m", "l", "o"],
+        &["process", "m", "l", "o", "--workers"],
+        &["process", "m", "l", "o", "--workers", "0"],
+        &["process", "m", "l", "o", "--workers", "65"],
+        &["process", "m", "l", "o", "--conflicts", "1"],
+        &["process", "m", "l", "o", "--workers", "1", "--workers", "2"],
+        &["process", "--workers", "1", "m", "l", "o"],
+        &["solve", "m", "o", "--workers", "1"],
+        &["prove", "m", "--workers", "1", "--workers", "2"],
+        &["prove", "m", "--workers", "1", "--conflicts"],
+        &["gen"],
+        &["gen", "1", "m"],
+        &["gen", "5001", "m", "l"],
+        &["gen", "m", "l", "1"],
+        &["gen", "1", "m", "l", "x"],
+        &["Gen", "1", "m", "l"],
     ];
     for words in rows {
         let mut desk = desk_of(alloc, MODEL, b"", 1_000_000, &[2])?;
@@ -136,6 +235,7 @@ fn words_are_judged_first(rt: HostRuntime) -> Result<(), Fail> {
             Some(b"words not understood\n".as_slice())
         );
         assert_eq!(rt; desk.written(Out::First), None, "at {words:?}");
+        assert_eq!(rt; desk.written(Out::Second), None, "at {words:?}");
     }
     let mut desk = desk_of(alloc, MODEL, b"", 4, &[3])?;
     assert_eq!(rt;
