@@ -7,6 +7,7 @@ pub mod Processes
 pub mod Rights
 pub mod Proves
 pub mod Families
+pub mod Files
 pub mod Says
 pub mod Solves
 pub mod Tasks

@@ -1,6 +1,6 @@
 // The command that processes a scaffold of a model.
 
-ghost use Rattle.std.specs.Prelude.{◌≡◌, ◌<◌, ◌-◌, IfOk, IsErrOf, length};
+ghost use Rattle.std.specs.Prelude.{◌≡◌, ◌<◌, ◌≤◌, ◌-◌, IfOk, IsErrOf, length};
 ghost use Rattle.dp_desk.specs.Channel.{IsAtEnd};
 ghost use Rattle.dp_desk.specs.Sight.{with_input};
 ghost use Rattle.dp_domain.specs.States.{AreOf};
@@ -30,19 +30,25 @@ use dp_base::{Memory, Text};
 use dp_desk::{Desk, In};
 use dp_domain::{Atom, Verdict};
 use dp_parts::Problem;
+use dp_pool::Gate;
 use dp_process::ProcessRefusal;
 use dp_scaffold::{Scaffold, ScaffoldAnswer, ScaffoldReading};
 use std::alloc::Global;
+use std::thread::Threads;
 
 /// Processes a scaffold of a model, and writes nothing. The scaffold is opened where the model is not refused.
-pub(crate) fn process<D: Desk>(
+pub(crate) fn process<R: Threads + Sync, D: Desk, G: Gate>(
+    rt: &R,
     alloc: Global,
     model: &str,
     scaffold: &str,
     out: &str,
     workers: u32,
     desk: &mut D,
+    gate: &G,
 ) -> Result<Reply, Trouble>
+    requires some_workers { 1 ≤ workers }
+    requires few_workers { workers ≤ 64 }
     ensures due { IfOk result (λ reply. RepliesTo (D.sight desk.old).names (Process model.now scaffold.now out.now workers) reply) }
     ensures ended { IfOk result (λ reply. status_of reply ≡ 0 → AreAtEnd (Process model.now scaffold.now out.now workers) (D.sight desk.new)) }
     ensures patient { IsErrOf result ReadFault → HasPatience (D.sight desk.old).names (Process model.now scaffold.now out.now workers) (D.sight desk.old).log (D.sight desk.new).log }
@@ -53,7 +59,7 @@ pub(crate) fn process<D: Desk>(
 {
     match read_problem(alloc, model, desk)? {
         Found::Problem(_model, problem) => {
-            let outcome = process_input(alloc, &problem, scaffold, out, desk)?;
+            let outcome = process_input(rt, alloc, &problem, scaffold, out, workers, desk, gate)?;
             Ok(Reply::Processed(outcome))
         }
         Found::Refusal(refusal) => Ok(Reply::ModelRefused(refusal)),
@@ -61,13 +67,18 @@ pub(crate) fn process<D: Desk>(
 }
 
 // Judges a scaffold while it is read, and processes it.
-fn process_input<D: Desk>(
+fn process_input<R: Threads + Sync, D: Desk, G: Gate>(
+    rt: &R,
     alloc: Global,
     problem: &Problem,
     name: &str,
     out: &str,
+    workers: u32,
     desk: &mut D,
+    gate: &G,
 ) -> Result<Outcome, Trouble>
+    requires some_workers { 1 ≤ workers }
+    requires few_workers { workers ≤ 64 }
     ensures outcome { IfOk result (IsProcessed (D.sight desk.old).names name.now out.now problem.now) }
     ensures ended { IfOk result (λ outcome. outcome_status outcome ≡ 0 → IsAtEnd (D.sight desk.new).log) }
     ensures patient { IsErrOf result ReadFault → IsPatient (has_no_refusal (posed problem.now)) (D.sight desk.old).names name.now (D.sight desk.old).log (D.sight desk.new).log }
@@ -77,37 +88,49 @@ fn process_input<D: Desk>(
 {
     let reading = ScaffoldReading::new(alloc, problem)?;
     let answer = judge_read(alloc, desk, In::Log, name, MOST_OF_LOG, reading)?;
-    Ok(outcome_of(alloc, problem, answer, out)?)
+    Ok(outcome_of(rt, alloc, problem, answer, out, workers, gate)?)
 }
 
 // What becomes of what is answered for a scaffold's bytes.
-fn outcome_of(
+fn outcome_of<R: Threads + Sync, G: Gate>(
+    rt: &R,
     alloc: Global,
     problem: &Problem,
     answer: ScaffoldAnswer,
     out: &str,
+    workers: u32,
+    gate: &G,
 ) -> Result<Outcome, Memory>
-    requires { IsScaffoldAnswer problem.now answer }
+    requires answer { IsScaffoldAnswer problem.now answer }
+    requires some_workers { 1 ≤ workers }
+    requires few_workers { workers ≤ 64 }
     ensures { IfOk result (IsOutcome problem.now out.now answer) }
 {
     match answer {
-        ScaffoldAnswer::Given(scaffold) => process_scaffold(alloc, problem, &scaffold, out),
+        ScaffoldAnswer::Given(scaffold) => process_scaffold(
+            rt, alloc, problem, &scaffold, out, workers, gate,
+        ),
         ScaffoldAnswer::Unread(refusal) => Ok(Outcome::Unread(refusal)),
         ScaffoldAnswer::Refused(refusal, text) => Ok(Outcome::Refused(refusal, text)),
     }
 }
 
 // What becomes of a scaffold.
-fn process_scaffold(
+fn process_scaffold<R: Threads + Sync, G: Gate>(
+    rt: &R,
     alloc: Global,
     problem: &Problem,
     scaffold: &Scaffold,
     out: &str,
+    workers: u32,
+    gate: &G,
 ) -> Result<Outcome, Memory>
-    requires { IsScaffoldOf problem.now scaffold.now }
+    requires scaffold { IsScaffoldOf problem.now scaffold.now }
+    requires some_workers { 1 ≤ workers }
+    requires few_workers { workers ≤ 64 }
     ensures { IfOk result (IsOutcomeOf problem.now out.now scaffold.now) }
 {
-    match dp_process::process(alloc, problem, scaffold) {
+    match dp_process::process(rt, alloc, problem, scaffold, workers as usize, gate) {
         Ok(processed) => {
             let done = Done {
                 log: File {

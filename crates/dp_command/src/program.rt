@@ -26,7 +26,9 @@ use crate::task::Task;
 use crate::{Command, OUT_OF_MEMORY, READ_FAULT, Trouble, read_words};
 use dp_base::Memory;
 use dp_desk::Desk;
+use dp_pool::Gate;
 use std::alloc::Global;
+use std::thread::Threads;
 
 /// Does what the words ask for over a desk, and answers the status that the program ends with.
 ///
@@ -38,8 +40,15 @@ use std::alloc::Global;
 /// of memory. At each status but 7 a text is written as the answer. The processed log is opened and written only where
 /// nothing but a write can fail, before the answer; the scaffold of a model that is solved is opened where the model is
 /// not refused, and is written while it is solved; a model is proved without a file. A generated model is opened and written,
-/// then its scaffold, then the answer.
-pub fn run<D: Desk>(alloc: Global, words: &[&str], desk: &mut D) -> u8
+/// then its scaffold, then the answer. Several workers justify the nogoods of a scaffold, and the gate is told of each; what is
+/// answered is the same for every number of workers and every gate.
+pub fn run<R: Threads + Sync, D: Desk, G: Gate>(
+    rt: &R,
+    alloc: Global,
+    words: &[&str],
+    desk: &mut D,
+    gate: &G,
+) -> u8
     // Which status, which file and which text.
     ensures answered { let texts = map (λ w. w.now) words.now in Answers (D.sight desk.old).names texts result (D.sight desk.old) (D.sight desk.new) }
     // What that says of the model and of the scaffold is so.
@@ -51,11 +60,17 @@ pub fn run<D: Desk>(alloc: Global, words: &[&str], desk: &mut D) -> u8
     // After a failed write and for want of memory fronts of what was due stand there.
     ensures fronts { let texts = map (λ w. w.now) words.now in LeavesFronts (D.sight desk.old).names texts result (Rose (D.faults_in desk.old) (D.faults_in desk.new)) (D.sight desk.old) (D.sight desk.new) }
 {
-    perform(alloc, words, desk)
+    perform(rt, alloc, words, desk, gate)
 }
 
 // Does what the words ask for: the facts of which those of the top call are made.
-fn perform<D: Desk>(alloc: Global, words: &[&str], desk: &mut D) -> u8
+fn perform<R: Threads + Sync, D: Desk, G: Gate>(
+    rt: &R,
+    alloc: Global,
+    words: &[&str],
+    desk: &mut D,
+    gate: &G,
+) -> u8
     ensures answered { let texts = map (λ w. w.now) words.now in IsReplied texts result → Said (D.sight desk.old).names texts result (D.sight desk.old) (D.sight desk.new) }
     ensures solved { let texts = map (λ w. w.now) words.now in IsSolved texts result → SolvesModel (D.sight desk.old).names texts result (D.sight desk.old) (D.sight desk.new) }
     ensures ended { let texts = map (λ w. w.now) words.now in result ≡ 0 → ReadsToEnd texts (D.sight desk.new) }
@@ -78,7 +93,7 @@ fn perform<D: Desk>(alloc: Global, words: &[&str], desk: &mut D) -> u8
     ensures rest { ChangesOutputs (D.sight desk.old) (D.sight desk.new) }
     ensures known { result ≤ 7 }
 {
-    match task_of(alloc, words, desk) {
+    match task_of(rt, alloc, words, desk, gate) {
         Ok(task) => match task {
             Task::Say(reply) => match reply.text(alloc) {
                 Ok(text) => hand_over(desk, &reply, text.as_slice()),
@@ -92,7 +107,13 @@ fn perform<D: Desk>(alloc: Global, words: &[&str], desk: &mut D) -> u8
 }
 
 // Reads and judges what the words ask for, and writes nothing.
-fn task_of<D: Desk>(alloc: Global, words: &[&str], desk: &mut D) -> Result<Task, Trouble>
+fn task_of<R: Threads + Sync, D: Desk, G: Gate>(
+    rt: &R,
+    alloc: Global,
+    words: &[&str],
+    desk: &mut D,
+    gate: &G,
+) -> Result<Task, Trouble>
     ensures due { let texts = map (λ w. w.now) words.now in IfOk result (IsTask (D.sight desk.old).names texts) }
     ensures ended { let texts = map (λ w. w.now) words.now in IfOk result (λ task. IfGood task (ReadsToEnd texts (D.sight desk.new))) }
     ensures patient { let texts = map (λ w. w.now) words.now in IsErrOf result ReadFault → WasPatient (D.sight desk.old).names texts (D.sight desk.old).log (D.sight desk.new).log }
@@ -103,13 +124,19 @@ fn task_of<D: Desk>(alloc: Global, words: &[&str], desk: &mut D) -> Result<Task,
     ensures other { D.faults_out desk.new ≡ D.faults_out desk.old }
 {
     match read_words(words) {
-        Some(command) => obey(alloc, command, desk),
+        Some(command) => obey(rt, alloc, command, desk, gate),
         None => Ok(Task::Say(Reply::NoCommand)),
     }
 }
 
 // Reads and judges what a command asks for, and writes nothing.
-fn obey<D: Desk>(alloc: Global, command: Command<'_>, desk: &mut D) -> Result<Task, Trouble>
+fn obey<R: Threads + Sync, D: Desk, G: Gate>(
+    rt: &R,
+    alloc: Global,
+    command: Command<'_>,
+    desk: &mut D,
+    gate: &G,
+) -> Result<Task, Trouble>
     requires { IsInRange (asked command) }
     ensures due { IfOk result (IsTaskTo (D.sight desk.old).names (asked command.entry)) }
     ensures ended { IfOk result (λ task. IfGood task (AreAtEnd (asked command.entry) (D.sight desk.new))) }
@@ -138,7 +165,7 @@ fn obey<D: Desk>(alloc: Global, command: Command<'_>, desk: &mut D) -> Result<Ta
             model,
             workers,
             conflicts,
-        } => Ok(Task::Say(prove(alloc, model, workers, conflicts, desk)?)),
+        } => Ok(Task::Say(prove(rt, alloc, model, workers, conflicts, desk, gate)?)),
         Command::Gen { n, model, scaffold } => {
             let family = generate(alloc, n, model, scaffold)?;
             Ok(Task::Say(Reply::Generated(family)))

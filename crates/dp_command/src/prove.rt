@@ -18,18 +18,24 @@ use crate::reply::Reply;
 use dp_base::Memory;
 use dp_desk::{Desk, In};
 use dp_parts::Problem;
+use dp_pool::Gate;
 use fz_model::Model;
 use fz_prove::{Proof, prove_model};
 use std::alloc::Global;
+use std::thread::Threads;
 
 /// Proves a model with at most so many nogoods, and writes nothing. The model alone is opened.
-pub(crate) fn prove<D: Desk>(
+pub(crate) fn prove<R: Threads + Sync, D: Desk, G: Gate>(
+    rt: &R,
     alloc: Global,
     model: &str,
     workers: u32,
     conflicts: u64,
     desk: &mut D,
+    gate: &G,
 ) -> Result<Reply, Trouble>
+    requires some_workers { 1 ≤ workers }
+    requires few_workers { workers ≤ 64 }
     requires some { 1 ≤ conflicts }
     requires few { conflicts ≤ 4000000000 }
     ensures due { IfOk result (λ reply. RepliesTo (D.sight desk.old).names (Prove model.now workers conflicts) reply) }
@@ -41,7 +47,7 @@ pub(crate) fn prove<D: Desk>(
 {
     match read_problem(alloc, model, desk)? {
         Found::Problem(model, problem) => {
-            let proving = prove_problem(alloc, &model, &problem, conflicts)?;
+            let proving = prove_problem(rt, alloc, &model, &problem, conflicts, workers, gate)?;
             Ok(Reply::Proved(proving))
         }
         Found::Refusal(refusal) => Ok(Reply::ModelRefused(refusal)),
@@ -49,20 +55,25 @@ pub(crate) fn prove<D: Desk>(
 }
 
 // Proves a model, whose problem this is.
-fn prove_problem(
+fn prove_problem<R: Threads + Sync, G: Gate>(
+    rt: &R,
     alloc: Global,
     model: &Model,
     problem: &Problem,
     conflicts: u64,
+    workers: u32,
+    gate: &G,
 ) -> Result<Proving, Memory>
     requires problem { IsProblemOf model.now problem.now }
     requires some { 1 ≤ conflicts }
     requires few { conflicts ≤ 4000000000 }
+    requires some_workers { 1 ≤ workers }
+    requires few_workers { workers ≤ 64 }
     ensures { IfOk result (IsProving model.now problem.now conflicts) }
 {
     // What a problem keeps is known by a look at it.
     let _goal = problem.goal();
-    let proof = prove_model(alloc, model, problem, conflicts)?;
+    let proof = prove_model(rt, alloc, model, problem, conflicts, workers as usize, gate)?;
     let proving = proving_of(alloc, problem, proof)?;
     Ok(proving)
 }

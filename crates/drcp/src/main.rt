@@ -3,6 +3,7 @@
 
 use dp_command::run;
 use dp_desk::HostDesk;
+use dp_pool::Open;
 use std::alloc::{AllocError, Global};
 use std::env;
 use std::io::ErrorKind;
@@ -19,7 +20,7 @@ fn main(rt: HostRuntime) -> ExitCode {
             let arguments: Result<Vec<String>, AllocError> = arguments.skip(1).collect(alloc);
             match arguments {
                 Ok(arguments) => match words_of(alloc, &arguments) {
-                    Ok(words) => run(alloc, words.as_slice(), &mut desk),
+                    Ok(words) => run(&rt, alloc, words.as_slice(), &mut desk, &Open),
                     Err(AllocError) => OUT_OF_MEMORY,
                 },
                 Err(AllocError) => OUT_OF_MEMORY,
@@ -27,7 +28,7 @@ fn main(rt: HostRuntime) -> ExitCode {
         }
         Err(error) if error.kind() == ErrorKind::OutOfMemory => OUT_OF_MEMORY,
         // An argument that is no text is no word of any command.
-        Err(_) => run(alloc, &[], &mut desk),
+        Err(_) => run(&rt, alloc, &[], &mut desk, &Open),
     };
     ExitCode::from(status)
 }

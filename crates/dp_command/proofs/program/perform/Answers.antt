@@ -3,11 +3,11 @@ use Rattle.std.specs.Prelude.{ℕ}
 use Rattle.std.proofs.Common.{◌∙◌, inl, inr, refl, subst, sym}
 use Rattle.dp_desk.specs.Causes.{Rose}
 use Rattle.dp_command.proofs.Patience.{said_patient}
-use Rattle.dp_command.proofs.Says.{ended_said, front_fault, front_said, handed_small, left_said, left_told, not_five, not_seven, refused_said, rest_said, rose_said, said_known, said_of, unfiled, unfiled_words, unsolved}
+use Rattle.dp_command.proofs.Says.{ended_said, front_fault, front_said, handed_small, left_said, left_told, not_five, not_seven, refused_said, rest_said, rose_said, said_known, said_of, searched_files, second_unfiled, second_words, unfiled, unfiled_words, unsolved}
 use Rattle.dp_command.proofs.Solves.{front_search, left_search, search_ends, search_not_five, searched_words, seen_search, solved_search, unopened}
 use Rattle.dp_command.proofs.Tasks.{fault_is, fault_rose, reply_due, reply_good, reply_unread, search_due, search_good}
 use Rattle.dp_command.specs.Due.{ReadsToEnd}
-use Rattle.dp_command.specs.Texts.{file_of}
+use Rattle.dp_command.specs.Texts.{files_of}
 use Rattle.dp_command.proofs.program.perform.Goals as goal
 
 -- ---- a reply
@@ -30,9 +30,19 @@ returns-in-Ok-text-clause-ended g c =
 
 pub returns-in-Ok-text-clause-unfiled_words : goal.returns-in-Ok-text-clause-unfiled_words
 returns-in-Ok-text-clause-unfiled_words g c =
-    λ process solve.
+    λ process solve gen.
     unfiled_words (g.D.Desk.sight c.args.desk.now).names _ c.in-Say.reply c.as_slice.result.now c.hand_over.result (g.D.Desk.sight c.args.desk.now) (g.D.Desk.sight c.task_of.new.desk) (g.D.Desk.sight c.hand_over.new.desk)
-    (g.D.Desk.faults_out c.task_of.new.desk) (g.D.Desk.faults_out c.hand_over.new.desk) c.task_of.ensures.rest (reply_due (g.D.Desk.sight c.args.desk.now).names _ c.in-Ok.task c.in-Say.reply c.in-Say.is c.in-Ok.ensures.due) c.hand_over.ensures.said process
+    (g.D.Desk.faults_out c.task_of.new.desk) (g.D.Desk.faults_out c.hand_over.new.desk) c.task_of.ensures.rest (reply_due (g.D.Desk.sight c.args.desk.now).names _ c.in-Ok.task c.in-Say.reply c.in-Say.is c.in-Ok.ensures.due) c.hand_over.ensures.said process gen
+
+pub returns-in-Ok-text-clause-second_words : goal.returns-in-Ok-text-clause-second_words
+returns-in-Ok-text-clause-second_words g c =
+    second_words (g.D.Desk.sight c.args.desk.now).names _ c.in-Say.reply c.as_slice.result.now c.hand_over.result (g.D.Desk.sight c.args.desk.now) (g.D.Desk.sight c.task_of.new.desk) (g.D.Desk.sight c.hand_over.new.desk)
+    (g.D.Desk.faults_out c.task_of.new.desk) (g.D.Desk.faults_out c.hand_over.new.desk) c.task_of.ensures.rest (reply_due (g.D.Desk.sight c.args.desk.now).names _ c.in-Ok.task c.in-Say.reply c.in-Say.is c.in-Ok.ensures.due) c.hand_over.ensures.said
+
+pub returns-in-Ok-text-clause-second_unfiled : goal.returns-in-Ok-text-clause-second_unfiled
+returns-in-Ok-text-clause-second_unfiled g c =
+    second_unfiled c.in-Say.reply c.as_slice.result.now c.hand_over.result (g.D.Desk.sight c.args.desk.now) (g.D.Desk.sight c.task_of.new.desk) (g.D.Desk.sight c.hand_over.new.desk)
+    (g.D.Desk.faults_out c.task_of.new.desk) (g.D.Desk.faults_out c.hand_over.new.desk) c.task_of.ensures.rest c.hand_over.ensures.said
 
 pub returns-in-Ok-text-clause-unfiled : goal.returns-in-Ok-text-clause-unfiled
 returns-in-Ok-text-clause-unfiled g c =
@@ -42,11 +52,11 @@ returns-in-Ok-text-clause-unfiled g c =
 
 pub returns-in-Ok-text-clause-read_fault : goal.returns-in-Ok-text-clause-read_fault
 returns-in-Ok-text-clause-read_fault g c =
-    λ e. absurd (not_five c.hand_over.result (handed_small c.in-Say.reply c.as_slice.result.now (file_of c.in-Say.reply) (g.D.Desk.sight c.task_of.new.desk) (g.D.Desk.sight c.hand_over.new.desk) c.hand_over.result (g.D.Desk.faults_out c.task_of.new.desk) (g.D.Desk.faults_out c.hand_over.new.desk) c.hand_over.ensures.said) e)
+    λ e. absurd (not_five c.hand_over.result (handed_small c.in-Say.reply c.as_slice.result.now (files_of c.in-Say.reply) (g.D.Desk.sight c.task_of.new.desk) (g.D.Desk.sight c.hand_over.new.desk) c.hand_over.result (g.D.Desk.faults_out c.task_of.new.desk) (g.D.Desk.faults_out c.hand_over.new.desk) c.hand_over.ensures.said) e)
 
 pub returns-in-Ok-text-clause-patient : goal.returns-in-Ok-text-clause-patient
 returns-in-Ok-text-clause-patient g c =
-    λ e. absurd (not_five c.hand_over.result (handed_small c.in-Say.reply c.as_slice.result.now (file_of c.in-Say.reply) (g.D.Desk.sight c.task_of.new.desk) (g.D.Desk.sight c.hand_over.new.desk) c.hand_over.result (g.D.Desk.faults_out c.task_of.new.desk) (g.D.Desk.faults_out c.hand_over.new.desk) c.hand_over.ensures.said) e)
+    λ e. absurd (not_five c.hand_over.result (handed_small c.in-Say.reply c.as_slice.result.now (files_of c.in-Say.reply) (g.D.Desk.sight c.task_of.new.desk) (g.D.Desk.sight c.hand_over.new.desk) c.hand_over.result (g.D.Desk.faults_out c.task_of.new.desk) (g.D.Desk.faults_out c.hand_over.new.desk) c.hand_over.ensures.said) e)
 
 pub returns-in-Ok-text-clause-front : goal.returns-in-Ok-text-clause-front
 returns-in-Ok-text-clause-front g c =
@@ -56,7 +66,7 @@ returns-in-Ok-text-clause-front g c =
 
 pub returns-in-Ok-text-clause-left : goal.returns-in-Ok-text-clause-left
 returns-in-Ok-text-clause-left g c =
-    λ e solve. absurd (not_seven c.hand_over.result (handed_small c.in-Say.reply c.as_slice.result.now (file_of c.in-Say.reply) (g.D.Desk.sight c.task_of.new.desk) (g.D.Desk.sight c.hand_over.new.desk) c.hand_over.result (g.D.Desk.faults_out c.task_of.new.desk) (g.D.Desk.faults_out c.hand_over.new.desk) c.hand_over.ensures.said) e)
+    λ e solve. absurd (not_seven c.hand_over.result (handed_small c.in-Say.reply c.as_slice.result.now (files_of c.in-Say.reply) (g.D.Desk.sight c.task_of.new.desk) (g.D.Desk.sight c.hand_over.new.desk) c.hand_over.result (g.D.Desk.faults_out c.task_of.new.desk) (g.D.Desk.faults_out c.hand_over.new.desk) c.hand_over.ensures.said) e)
 
 pub returns-in-Ok-text-clause-rest : goal.returns-in-Ok-text-clause-rest
 returns-in-Ok-text-clause-rest g c =
@@ -73,11 +83,11 @@ returns-in-Ok-text-clause-write_fault g c =
 
 pub returns-in-Ok-text-clause-nothing : goal.returns-in-Ok-text-clause-nothing
 returns-in-Ok-text-clause-nothing g c =
-    λ e. absurd (not_seven c.hand_over.result (handed_small c.in-Say.reply c.as_slice.result.now (file_of c.in-Say.reply) (g.D.Desk.sight c.task_of.new.desk) (g.D.Desk.sight c.hand_over.new.desk) c.hand_over.result (g.D.Desk.faults_out c.task_of.new.desk) (g.D.Desk.faults_out c.hand_over.new.desk) c.hand_over.ensures.said) e)
+    λ e. absurd (not_seven c.hand_over.result (handed_small c.in-Say.reply c.as_slice.result.now (files_of c.in-Say.reply) (g.D.Desk.sight c.task_of.new.desk) (g.D.Desk.sight c.hand_over.new.desk) c.hand_over.result (g.D.Desk.faults_out c.task_of.new.desk) (g.D.Desk.faults_out c.hand_over.new.desk) c.hand_over.ensures.said) e)
 
 pub returns-in-Ok-text-clause-known : goal.returns-in-Ok-text-clause-known
 returns-in-Ok-text-clause-known g c =
-    said_known c.hand_over.result (handed_small c.in-Say.reply c.as_slice.result.now (file_of c.in-Say.reply) (g.D.Desk.sight c.task_of.new.desk) (g.D.Desk.sight c.hand_over.new.desk) c.hand_over.result (g.D.Desk.faults_out c.task_of.new.desk) (g.D.Desk.faults_out c.hand_over.new.desk) c.hand_over.ensures.said)
+    said_known c.hand_over.result (handed_small c.in-Say.reply c.as_slice.result.now (files_of c.in-Say.reply) (g.D.Desk.sight c.task_of.new.desk) (g.D.Desk.sight c.hand_over.new.desk) c.hand_over.result (g.D.Desk.faults_out c.task_of.new.desk) (g.D.Desk.faults_out c.hand_over.new.desk) c.hand_over.ensures.said)
 
 pub returns-in-Ok-text-clause-unasked : goal.returns-in-Ok-text-clause-unasked
 returns-in-Ok-text-clause-unasked g c =
@@ -87,7 +97,8 @@ returns-in-Ok-text-clause-unasked g c =
 
 pub returns-in-Ok-clause-unasked : goal.returns-in-Ok-clause-unasked
 returns-in-Ok-clause-unasked g c =
-    left_said _ (g.D.Desk.sight c.args.desk.now) (g.D.Desk.sight c.task_of.new.desk) (g.D.Desk.sight c.search.new.desk) c.search.ensures.rest c.task_of.ensures.unasked
+    left_said _ (g.D.Desk.sight c.args.desk.now) (g.D.Desk.sight c.task_of.new.desk) (g.D.Desk.sight c.search.new.desk)
+    (searched_files (g.D.Desk.sight c.task_of.new.desk) (g.D.Desk.sight c.search.new.desk) c.search.ensures.rest) c.task_of.ensures.unasked
 
 pub returns-in-Ok-clause-solved : goal.returns-in-Ok-clause-solved
 returns-in-Ok-clause-solved g c =

@@ -8,5 +8,5 @@ use Rattle.dp_command.proofs.prove.prove.Goals as goal
 
 pub returns-in-Refusal-clause-due : goal.returns-in-Refusal-clause-due
 returns-in-Refusal-clause-due g c =
-    refused_of (g.D.Desk.sight c.args.desk.now).names (Prove c.args.model.now c.args.conflicts) c.args.model.now c.in-Refusal.refusal refl
+    refused_of (g.D.Desk.sight c.args.desk.now).names (Prove c.args.model.now c.args.workers c.args.conflicts) c.args.model.now c.in-Refusal.refusal refl
     (subst (λ (w : Found). IsFound (g.D.Desk.sight c.args.desk.now).names c.args.model.now w) c.in-Refusal.is c.in_ok-model.ensures.read)
