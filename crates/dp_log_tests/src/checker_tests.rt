@@ -1,7 +1,7 @@
 ghost use Rattle.std.specs.Prelude.{◌≤◌, ◌^◌};
 ghost use Rattle.dp_lines.specs.Allowed.{IsAllowed};
 
-use crate::models::{Used, is_atom, problem_of, reader_of};
+use crate::models::{Used, problem_of, reader_of};
 use dp_base::Memory;
 use dp_checker::{CheckFault, Checker, StepRefusal, Why};
 use dp_domain::{Op, Verdict};
@@ -235,12 +235,20 @@ const TAKEN: &[Row] = &[
     ),
 ];
 
-/// What a log brings: its first refusal, whether each later line is refused so too, and what is answered behind it.
+/// What a log brings: its first refusal, whether each later line is refused so too, and what is answered behind it: a bound, if any.
 #[derive(Clone, Copy)]
 struct Course {
     refusal: Option<StepRefusal>,
     steady: bool,
-    end: Result<Verdict, StepRefusal>,
+    end: Result<Option<Used>, StepRefusal>,
+}
+
+/// The bound that is concluded, if any is.
+fn bound_of(verdict: &Verdict) -> Option<Used> {
+    match verdict {
+        Verdict::Unsat => None,
+        Verdict::Bound(atom) => Some((atom.var().0, atom.op(), atom.value())),
+    }
 }
 
 /// Takes the line, again where memory was wanting.
@@ -273,7 +281,10 @@ fn course_of(alloc: Global, problem: &Problem, log: &[u8], lines: u64) -> Result
         steady = steady && (refusal.is_none() || answer == refusal);
         refusal = answer;
     }
-    let end = checker.finish(lines);
+    let end = match checker.finish(lines) {
+        Ok(verdict) => Ok(bound_of(&verdict)),
+        Err(refusal) => Err(refusal),
+    };
     Ok(Course {
         refusal,
         steady,
@@ -291,20 +302,19 @@ fn lines_of(wanted: Wanted) -> u64
     }
 }
 
-fn is_refusal(refusal: &StepRefusal, line: u64, why: Why) -> bool {
+fn is_refusal(refusal: StepRefusal, line: u64, why: Why) -> bool {
     refusal.line == line && refusal.why == why
 }
 
-fn is_wanted(course: &Course, wanted: Wanted) -> bool {
-    match (&course.refusal, &course.end, wanted) {
+fn is_wanted(course: Course, wanted: Wanted) -> bool {
+    match (course.refusal, course.end, wanted) {
         (Some(first), Err(last), Refused(line, why)) => {
             course.steady && is_refusal(first, line, why) && is_refusal(last, line, why)
         }
         (None, Err(last), Unconcluded(lines)) => {
-            last.line == lines.saturating_add(1) && last.why == Why::NoConclusion
+            is_refusal(last, lines.saturating_add(1), Why::NoConclusion)
         }
-        (None, Ok(Verdict::Unsat), Accepted(None)) => true,
-        (None, Ok(Verdict::Bound(atom)), Accepted(Some(used))) => is_atom(atom, &used),
+        (None, Ok(bound), Accepted(wanted)) => bound == wanted,
         _ => false,
     }
 }
@@ -313,7 +323,7 @@ fn is_wanted(course: &Course, wanted: Wanted) -> bool {
 fn brings(alloc: Global, model: &str, log: &[u8], wanted: Wanted) -> Result<bool, Memory> {
     let problem = problem_of(alloc, model)?;
     let course = course_of(alloc, &problem, log, lines_of(wanted))?;
-    Ok(is_wanted(&course, wanted))
+    Ok(is_wanted(course, wanted))
 }
 
 #[test]
