@@ -11,7 +11,7 @@ abbrev pub Gathers : Posed → ℕ → Gathered → List Line → Gathered → T
 Gathers p n g lines later = gather_all p (Ok g) (enumerate_from n lines) ≡ Ok later
 
 -- joined lines are gathered one list after the other
-all_append : (p : Posed) (n : ℕ) (progress : Result Gathered ScaffoldRefusal) (front back : List Line)
+pub all_append : (p : Posed) (n : ℕ) (progress : Result Gathered ScaffoldRefusal) (front back : List Line)
     → gather_all p progress (enumerate_from n (front ++ back)) ≡ gather_all p (gather_all p progress (enumerate_from n front)) (enumerate_from (n + length front) back)
 all_append p n progress [] back =
     let same : n ≡ n + 0 = omega arith in

@@ -6,3 +6,6 @@ pub mod AtomLemmas
 pub mod GatherLemmas
 pub mod LineLemmas
 pub mod RereadLemmas
+pub mod LimitLemmas
+pub mod RoomLemmas
+pub mod EndLemmas

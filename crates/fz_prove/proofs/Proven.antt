@@ -1,5 +1,5 @@
 -- What becomes of the scaffold of an outcome.
-use Rattle.std.proofs.Common.{◌≡◌, ℕ, ◌<◌, true, List, length, Option, Some, None, ℤ, ◌↔◌, sym, ◌∙◌, ap, subst, arith}
+use Rattle.std.proofs.Common.{◌≡◌, ℕ, ◌<◌, ◌⊎◌, true, List, length, Option, Some, None, ℤ, ◌↔◌, sym, ◌∙◌, ap, subst, inl, inr, arith}
 use Rattle.dp_base.specs.Lists.{Each}
 use Rattle.dp_checker.specs.Judged.{is_bound}
 use Rattle.dp_desk.specs.Channel.{Channel, Shown, Starts}
@@ -26,16 +26,18 @@ use Rattle.dp_rule_clause.specs.Nogoods.{IsOnce}
 use Rattle.dp_scaffold.specs.Scaffolds.{Learned}
 use Rattle.dp_scaffold.specs.Texts.{scaffold_text}
 use Rattle.dp_scaffold.specs.declared.answer.ScaffoldAnswer.{ScaffoldAnswer}
-use Rattle.dp_scaffold.specs.declared.answer.ScaffoldAnswer.TheVariants.{Given}
+use Rattle.dp_scaffold.specs.declared.answer.ScaffoldAnswer.TheVariants.{Given, Unread, Refused}
 use Rattle.dp_solver.specs.Outcomes.{IsOutcome, Solves}
 use Rattle.dp_solver.specs.declared.outcome.Outcome.{Outcome}
 use Rattle.dp_solver.specs.declared.outcome.Outcome.TheVariants.{Solution, Unsat, Optimal, Unknown}
 use Rattle.dp_writer.specs.Steps.{lines, text_of}
 use Rattle.fz_model.specs.Models.{IsModel, Plan}
-use Rattle.fz_prove.specs.Checks.{IsChecked, IsPassed, IsSearched, IsTold}
-use Rattle.fz_prove.specs.Proofs.{IsEnd, IsEnding, IsProven, Proves}
+use Rattle.fz_prove.specs.Checks.{IsChecked, IsLimited, IsPassed, IsSearched, IsTold}
+use Rattle.fz_prove.specs.Limits.{IsPastLimit, IsTooMuch}
+use Rattle.fz_prove.specs.Proofs.{IsAgreed, IsEnd, IsEnding, IsProven, IsWithin, Proves}
 use Rattle.fz_prove.specs.declared.proof.Proof.{Proof}
 use Rattle.fz_prove.specs.declared.proof.Proof.TheVariants.{Accepted}
+use Rattle.fz_prove.proofs.EndLemmas.{scaffold_ends}
 use Rattle.fz_prove.proofs.Followed.{each_follows}
 use Rattle.fz_sat.specs.Satisfies.{Satisfies}
 use Rattle.fz_solve.specs.Printed.{outcome_text}
@@ -57,6 +59,17 @@ bound_of_goal (Minimize x) count numbers bound h e =
 bound_of_goal (Maximize x) count numbers bound h e =
     subst (λ (a : Atomic). (is_bound (Maximize x) a ≡ true) × (a.var < count)) (same_bound (at_most x (assigned numbers x)) bound e) (grind arith, h)
 
+-- ---- a limit that is told
+
+same_given : (s t : Learned) → ◌≡◌ {A = ScaffoldAnswer} (Given s) (Given t) → s ≡ t
+same_given s t e = cc
+
+-- a scaffold that is refused for a limit ends so
+told_much : (p : Csp) (text : List ℕ) (proof : Proof) (answer : ScaffoldAnswer) → IsTooMuch answer → IsEnd p text answer proof → IsPastLimit proof
+told_much p text proof (Given s) much e = absurd much
+told_much p text proof (Unread refusal) much e = subst IsPastLimit (sym e) much
+told_much p text proof (Refused refusal line) much e = subst IsPastLimit (sym e) much
+
 -- ---- a claim
 
 module _ (p : Csp) (problem : IsProblem p) (back : LeadBack p.names) (nogoods : List (List Atomic)) (claim : Verdict) (learned : AreLearned (posed p) nogoods) (once : Each IsOnce nogoods)
@@ -70,6 +83,27 @@ module _ (p : Csp) (problem : IsProblem p) (back : LeadBack p.names) (nogoods : 
       let follow : EachMetFollows (posed p) r.scaffold.nogoods =
       subst (EachMetFollows (posed p)) (sym r.those) (each_follows (posed p) nogoods (denial_of claim) learned concludes) in
       subst (λ (a : ScaffoldAnswer). IsPassed p text a proof) r.given passed follow (short r.scaffold r.given) ∙ ap (Accepted text) r.claims
+
+  -- and it is accepted there alone: else a limit is told
+  pub claim_agreed : (text : List ℕ) (proof : Proof) → IsEnd p text (scaffold_text (posed p) (scaffold_of p nogoods (Some claim))) proof
+      → IsLimited p text (scaffold_text (posed p) (scaffold_of p nogoods (Some claim))) proof → ((proof ≡ Accepted text claim) × IsWithin p nogoods claim) ⊎ IsPastLimit proof
+  claim_agreed text proof ending limited =
+      elim (scaffold_ends p nogoods claim problem back (learned-variables (posed p) nogoods learned) once aimed allowed) [
+        | inl r ↦
+            let follow : EachMetFollows (posed p) r.0.scaffold.nogoods =
+            subst (EachMetFollows (posed p)) (sym r.0.those) (each_follows (posed p) nogoods (denial_of claim) learned concludes) in
+            elim (subst (λ (a : ScaffoldAnswer). IsLimited p text a proof) r.0.given limited follow) [
+              | inl a ↦ inl (
+                a.0 ∙ ap (Accepted text) r.0.claims,
+                record {
+                  scaffold = r.1;
+                  log = λ s e. subst (λ (t : Learned). AreShort (lines (log_of p t)) (text_of (log_of p t))) (same_given r.0.scaffold s (sym r.0.given ∙ e)) a.1;
+                },
+              )
+              | inr b ↦ inr b
+            ]
+        | inr much ↦ inr (told_much p text proof (scaffold_text (posed p) (scaffold_of p nogoods (Some claim))) much ending)
+      ]
 
 -- ---- an outcome
 
@@ -113,6 +147,25 @@ module _ (m : Plan) (p : Csp) (most : ℕ) (nogoods : List (List Atomic)) (claim
         proven_claim (Optimal numbers bound) (claimed.Bound bound) o.claim (bound_of_goal p.goal (length p.initial) numbers bound problem.goal o.bound) o.follows h
     proven_of (Unknown best) o h = proven_none (Unknown best) o.claim
 
+    agreed_claim : (outcome : Outcome) (verdict : Verdict) → claim ≡ Some verdict → IsOfGoal p verdict → Concludes (posed p) nogoods verdict → IsChecked p (outcome_text m outcome) bytes proof
+        → IsAgreed m p outcome nogoods claim proof
+    agreed_claim outcome verdict e aimed concludes h =
+        subst (λ (c : Option Verdict). IsAgreed m p outcome nogoods c proof) (sym e)
+        (claim_agreed p problem back nogoods verdict learned once (subst (λ (c : Option Verdict). Each IsAllowed (lines (steps_of p nogoods c))) e allowed) aimed concludes
+        (outcome_text m outcome) proof (subst (λ (b : List ℕ). IsEnd p (outcome_text m outcome) (scaffold_text (posed p) b) proof) (bytes_of verdict e) h.ending)
+        (subst (λ (b : List ℕ). IsLimited p (outcome_text m outcome) (scaffold_text (posed p) b) proof) (bytes_of verdict e) h.limited))
+
+    agreed_none : (outcome : Outcome) → claim ≡ None → IsAgreed m p outcome nogoods claim proof
+    agreed_none outcome e = subst (λ (c : Option Verdict). IsAgreed m p outcome nogoods c proof) (sym e) tt
+
+    -- the claim of an outcome is accepted, or a limit is told
+    pub agreed_of : (outcome : Outcome) → IsOutcome p most nogoods claim outcome → IsTold m p bytes outcome proof → IsAgreed m p outcome nogoods claim proof
+    agreed_of (Solution numbers) o h = agreed_none (Solution numbers) o.claim
+    agreed_of Unsat o h = agreed_claim Unsat claimed.Unsat o.claim tt o.follows h
+    agreed_of (Optimal numbers bound) o h =
+        agreed_claim (Optimal numbers bound) (claimed.Bound bound) o.claim (bound_of_goal p.goal (length p.initial) numbers bound problem.goal o.bound) o.follows h
+    agreed_of (Unknown best) o h = agreed_none (Unknown best) o.claim
+
 -- ---- the search
 
 -- what a solver wrote to an output that was opened is what a search found
@@ -138,4 +191,5 @@ proves_of m p most now bytes outcome proof model problem back is same found show
       truth = truth_of m p most f.nogoods f.claim outcome model problem is same f.learned f.outcome_is;
       ending = ending_of m p most f.nogoods f.claim bytes proof written outcome f.outcome_is h;
       proven = proven_of m p most f.nogoods f.claim bytes proof written problem back f.learned found.once found.allowed outcome f.outcome_is h;
+      agreed = agreed_of m p most f.nogoods f.claim bytes proof written problem back f.learned found.once found.allowed outcome f.outcome_is h;
     }

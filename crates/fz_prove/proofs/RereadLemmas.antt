@@ -27,12 +27,12 @@ use Rattle.fz_prove.specs.Rereading.{IsInLimits, IsReadAs}
 use Rattle.fz_prove.proofs.StepLemmas.{Says, all_say}
 
 -- two facts of each item are one
-both : {A : Type 0} (P Q : A → Type 0) (xs : List A) → Each P xs → Each Q xs → Each (λ x. P x × Q x) xs
+pub both : {A : Type 0} (P Q : A → Type 0) (xs : List A) → Each P xs → Each Q xs → Each (λ x. P x × Q x) xs
 both P Q [] e f = tt
 both P Q (x ∷ xs) e f = ((e.0, f.0), both P Q xs e.1 f.1)
 
 -- what denies a claim is the nogood that it is
-denied : (claim : Verdict) → nogood_of claim ≡ denial_of claim
+pub denied : (claim : Verdict) → nogood_of claim ≡ denial_of claim
 denied Unsat = refl
 denied (Bound a) = refl
 
@@ -42,7 +42,7 @@ scaffold g claim = record { nogoods = g.nogoods; lines = g.lines; ids = g.ids; c
 
 -- lines that are read from bytes and say the nogoods and the claim make the bytes a scaffold
 module _ (p : Csp) (nogoods : List (List Atomic)) (claim : Verdict) (ls : List Line) (bytes : List ℕ) (read : lines_in limits bytes ≡ all_of ls) where
-  read_as : (later : Gathered) → gather_all (posed p) (Ok nothing) (enumerate_from 1 ls) ≡ Ok later → later.nogoods ≡ nogoods ++ nogood_of claim ∷ [] → later.claim ≡ Some claim
+  pub read_as : (later : Gathered) → gather_all (posed p) (Ok nothing) (enumerate_from 1 ls) ≡ Ok later → later.nogoods ≡ nogoods ++ nogood_of claim ∷ [] → later.claim ≡ Some claim
       → IsReadAs p nogoods claim bytes
   read_as later said those claims =
       let count : ℕ = length (raw_lines bytes) in

@@ -46,7 +46,7 @@ abbrev pub known : List Step → List Atomic
 known steps = atoms_in (table steps)
 
 -- the literals of the last step stand for its atoms
-last_read : (earlier : List Step) (step : Step) → Each (IsRead (known (earlier ++ step ∷ []))) (atoms_of step)
+pub last_read : (earlier : List Step) (step : Step) → Each (IsRead (known (earlier ++ step ∷ []))) (atoms_of step)
 last_read earlier step =
     let whole : List Step = earlier ++ step ∷ [] in
     let atoms : List Atomic = known whole in
@@ -93,7 +93,7 @@ IsWritable p atoms = AreOf p.initial atoms × IsOnce atoms
 -- the steps behind earlier ones, whose nogoods are done
 module _ (p : Csp) (problem : IsProblem p) (back : LeadBack p.names) (claim : Verdict) (aimed : IsOfGoal p claim) where
   -- the conclusion says the claim behind all that is done
-  last_says : (earlier : List Step) (done : List (List Atomic)) (places : List ℕ) (n : ℕ) → Says p n earlier done places (conclusion p claim ∷ []) done claim
+  pub last_says : (earlier : List Step) (done : List (List Atomic)) (places : List ℕ) (n : ℕ) → Says p n earlier done places (conclusion p claim ∷ []) done claim
   last_says earlier done places n =
       let step : Step = conclusion p claim in
       let atoms : List Atomic = known (earlier ++ step ∷ []) in
@@ -108,7 +108,7 @@ module _ (p : Csp) (problem : IsProblem p) (back : LeadBack p.names) (claim : Ve
       )
 
   -- one nogood more is done
-  nogood_done : (earlier : List Step) (done : List (List Atomic)) (places : List ℕ) (n : ℕ) (atoms : List Atomic) → IsWritable p atoms
+  pub nogood_done : (earlier : List Step) (done : List (List Atomic)) (places : List ℕ) (n : ℕ) (atoms : List Atomic) → IsWritable p atoms
       → count_of earlier ≡ length done → length done < most_nogoods → sum_by length done + length atoms ≤ most_literals
       → (m : ℕ) × Gathers (posed p) n (said (known earlier) done places) (lines_of earlier (nogood p atoms []))
       (said (known (earlier ++ nogood p atoms [] ∷ [])) (done ++ atoms ∷ []) (places ++ m ∷ []))

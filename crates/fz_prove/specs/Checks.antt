@@ -1,5 +1,5 @@
 -- What the steps of proving a model leave.
-use Rattle.std.specs.Prelude.{◌≡◌, ℕ, List}
+use Rattle.std.specs.Prelude.{◌≡◌, ◌⊎◌, ℕ, List}
 use Rattle.dp_base.specs.Lists.{Each}
 use Rattle.dp_desk.specs.Channel.{Channel}
 use Rattle.dp_learning.specs.Scaffolds.{scaffold_of, steps_of}
@@ -17,6 +17,7 @@ use Rattle.dp_solver.specs.declared.outcome.Outcome.{Outcome}
 use Rattle.dp_solver.specs.declared.outcome.Outcome.TheVariants.{Solution, Unsat, Optimal, Unknown}
 use Rattle.dp_writer.specs.Steps.{lines, text_of}
 use Rattle.fz_model.specs.Models.{Plan}
+use Rattle.fz_prove.specs.Limits.{IsPastLimit}
 use Rattle.fz_prove.specs.Proofs.{IsEnd}
 use Rattle.fz_prove.specs.declared.proof.Proof.{Proof}
 use Rattle.fz_prove.specs.declared.proof.Proof.TheVariants.{Solved, Unknown as NotKnown, Accepted}
@@ -40,10 +41,22 @@ IsPassed p text (gathered.Given s) proof = IsPassedOf p text s proof
 IsPassed p text (gathered.Unread refusal) proof = Unit {0}
 IsPassed p text (gathered.Refused refusal line) proof = Unit {0}
 
+-- where each nogood that the scaffold rests on follows, its claim is accepted, and its log passes no limit; or one is passed, and that is told
+abbrev pub IsLimitedOf : Csp → List ℕ → Learned → Proof → Type 0
+IsLimitedOf p text s proof =
+    EachMetFollows (posed p) s.nogoods → ((proof ≡ Accepted text s.claim) × AreShort (lines (log_of p s)) (text_of (log_of p s))) ⊎ IsPastLimit proof
+
+-- the same of the scaffold of a text, if it is one
+abbrev pub IsLimited : Csp → List ℕ → ScaffoldAnswer → Proof → Type 0
+IsLimited p text (gathered.Given s) proof = IsLimitedOf p text s proof
+IsLimited p text (gathered.Unread refusal) proof = Unit {0}
+IsLimited p text (gathered.Refused refusal line) proof = Unit {0}
+
 -- the end of a scaffold's bytes
 pub record IsChecked (p : Csp) (text bytes : List ℕ) (proof : Proof) : Type 0 where
   pub ending : IsEnd p text (scaffold_text (posed p) bytes) proof
   pub passed : IsPassed p text (scaffold_text (posed p) bytes) proof
+  pub limited : IsLimited p text (scaffold_text (posed p) bytes) proof
 
 -- the end of an outcome, whose scaffold has these bytes
 abbrev pub IsTold : Plan → Csp → List ℕ → Outcome → Proof → Type 0

@@ -1,3 +1,4 @@
+pub mod Limits
 pub mod Proofs
 pub mod Checks
 pub mod Rereading

@@ -1,5 +1,5 @@
 -- What proving a model in memory ends with: it is solved, the scaffold is processed, and the log is checked.
-use Rattle.std.specs.Prelude.{◌≡◌, ℕ, List, Option, Some, None}
+use Rattle.std.specs.Prelude.{◌≡◌, ◌⊎◌, ℕ, List, Option, Some, None}
 use Rattle.dp_domain.specs.Atoms.{Atomic}
 use Rattle.dp_domain.specs.declared.verdict.Verdict.{Verdict}
 use Rattle.dp_judge.specs.Logs.{judged_log}
@@ -11,6 +11,7 @@ use Rattle.dp_process.specs.Answers.{IsFailingAt}
 use Rattle.dp_process.specs.Met.{EachMetFollows}
 use Rattle.dp_process.specs.Processed.{log_of}
 use Rattle.dp_replay.specs.Accepting.{AreShort}
+use Rattle.fz_prove.specs.Limits.{IsPastLimit}
 use Rattle.fz_prove.specs.Rereading.{IsInLimits}
 use Rattle.dp_scaffold.specs.Scaffolds.{Learned}
 use Rattle.dp_scaffold.specs.Texts.{scaffold_text}
@@ -60,11 +61,22 @@ IsProven m p outcome nogoods (Some claim) proof =
     IsInLimits p nogoods claim → ((s : Learned) → scaffold_text (posed p) (scaffold_of p nogoods (Some claim)) ≡ gathered.Given s → AreShort (lines (log_of p s)) (text_of (log_of p s)))
     → proof ≡ Accepted (outcome_text m outcome) claim
 
--- A search of the problem found an outcome. What it says is true of the model; and this is its end, which is acceptance where no
--- limit is passed.
+-- neither the scaffold nor its log passes a limit
+pub record IsWithin (p : Csp) (nogoods : List (List Atomic)) (claim : Verdict) : Type 0 where
+  pub scaffold : IsInLimits p nogoods claim
+  pub log : (s : Learned) → scaffold_text (posed p) (scaffold_of p nogoods (Some claim)) ≡ gathered.Given s → AreShort (lines (log_of p s)) (text_of (log_of p s))
+
+-- There is no disagreement: the claim is accepted, and no limit is passed; or the end tells that one is passed.
+abbrev pub IsAgreed : Plan → Csp → Outcome → List (List Atomic) → Option Verdict → Proof → Type 0
+IsAgreed m p outcome nogoods None proof = Unit {0}
+IsAgreed m p outcome nogoods (Some claim) proof = ((proof ≡ Accepted (outcome_text m outcome) claim) × IsWithin p nogoods claim) ⊎ IsPastLimit proof
+
+-- A search of the problem found an outcome. What it says is true of the model; and this is its end, which is acceptance exactly where no
+-- limit is passed, and else tells which.
 pub record Proves (m : Plan) (p : Csp) (most : ℕ) (proof : Proof) : Type 0 where
   pub outcome : Outcome
   pub found : Finds p most outcome
   pub truth : IsTruth m outcome
   pub ending : IsEnding m p outcome found.nogoods found.claim proof
   pub proven : IsProven m p outcome found.nogoods found.claim proof
+  pub agreed : IsAgreed m p outcome found.nogoods found.claim proof

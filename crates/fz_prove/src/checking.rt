@@ -4,7 +4,7 @@ ghost use Rattle.std.specs.Prelude.{◌≡◌, ◌≤◌, ◌^◌, IfOk, length}
 ghost use Rattle.dp_judge.specs.Logs.{judged_log};
 ghost use Rattle.dp_parts.specs.Problems.{posed};
 ghost use Rattle.dp_scaffold.specs.Scaffolds.{IsScaffoldOf};
-ghost use Rattle.fz_prove.specs.Checks.{IsChecked, IsPassedOf};
+ghost use Rattle.fz_prove.specs.Checks.{IsChecked, IsLimitedOf, IsPassedOf};
 ghost use Rattle.fz_prove.specs.Proofs.{IsEndOf, log_end};
 
 use crate::Proof;
@@ -61,6 +61,7 @@ fn check_scaffold<R: Threads + Sync, G: Gate>(
     requires few_workers { workers ≤ 64 }
     ensures ending { IfOk result (IsEndOf problem.now text scaffold.now) }
     ensures passed { IfOk result (IsPassedOf problem.now text scaffold.now) }
+    ensures limited { IfOk result (IsLimitedOf problem.now text scaffold.now) }
 {
     match process(rt, alloc, problem, scaffold, workers, gate) {
         Ok(processed) => {
