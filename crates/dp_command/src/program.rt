@@ -155,7 +155,7 @@ fn obey<R: Threads + Sync, D: Desk, G: Gate>(
             scaffold,
             out,
             workers,
-        } => Ok(Task::Say(process(alloc, model, scaffold, out, workers, desk)?)),
+        } => Ok(Task::Say(process(rt, alloc, model, scaffold, out, workers, desk, gate)?)),
         Command::Solve {
             model,
             out,

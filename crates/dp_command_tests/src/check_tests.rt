@@ -2,20 +2,23 @@
 use crate::runs::{MINIMUM, MODEL, STEPS, answered, desk_of};
 use dp_command::run;
 use dp_desk::Out;
+use dp_pool::Open;
 use std::alloc::{AllocError, Global};
 use std::test::Fail;
+use std::thread::Threads;
 
 const ACCEPTED: &str = "accepted: UNSAT\n";
 
 // Checks the log of these names, and gives back the status and the answer.
-fn checked(
+fn checked<R: Threads + Sync>(
+    rt: &R,
     alloc: Global,
     model: &str,
     log: &[u8],
     piece: usize,
     failing: &[u64],
 ) -> Result<(u8, Vec<u8>), AllocError> {
-    answered(alloc, &["check", "m", "l"], model, log, piece, failing)
+    answered(rt, alloc, &["check", "m", "l"], model, log, piece, failing)
 }
 
 const ENDS: [(&str, &str, u8, &str); 11] = [
@@ -88,7 +91,7 @@ fn logs_are_judged(rt: HostRuntime) -> Result<(), Fail> {
     for (name, last, status, text) in ENDS {
         let log = format!(in alloc; "{STEPS}{last}")?;
         for piece in [1, 16, 1_000_000] {
-            let (answered, answer) = checked(alloc, MODEL, log.as_bytes(), piece, &[])?;
+            let (answered, answer) = checked(&rt, alloc, MODEL, log.as_bytes(), piece, &[])?;
             assert_eq!(rt; answered, status, "{name}");
             assert_eq!(rt; answer.as_slice(), text.as_bytes(), "{name}");
         }
@@ -166,7 +169,7 @@ const LOGS: [(&str, &str, &str, u8, &str); 9] = [
 fn the_first_refusal_is_told(rt: HostRuntime) -> Result<(), Fail> {
     let alloc = rt.alloc();
     for (name, model, log, status, text) in LOGS {
-        let (answered, answer) = checked(alloc, model, log.as_bytes(), 1_000_000, &[])?;
+        let (answered, answer) = checked(&rt, alloc, model, log.as_bytes(), 1_000_000, &[])?;
         assert_eq!(rt; answered, status, "{name}");
         assert_eq!(rt; answer.as_slice(), text.as_bytes(), "{name}");
     }
@@ -179,7 +182,7 @@ fn failed_calls_are_told(rt: HostRuntime) -> Result<(), Fail> {
     let alloc = rt.alloc();
     let log = format!(in alloc; "{STEPS}n 8 0 1 2 3 4 5 6 7\nc UNSAT\n")?;
     for call in 1..7 {
-        let (answered, answer) = checked(alloc, MODEL, log.as_bytes(), 1_000_000, &[call])?;
+        let (answered, answer) = checked(&rt, alloc, MODEL, log.as_bytes(), 1_000_000, &[call])?;
         assert_eq!(rt; answered, 5, "call {call} fails");
         assert_eq!(rt;
             answer.as_slice(),
@@ -187,6 +190,7 @@ fn failed_calls_are_told(rt: HostRuntime) -> Result<(), Fail> {
             "call {call} fails"
         );
         let (answered, answer) = checked(
+            &rt,
             alloc,
             MODEL,
             log.as_bytes(),
@@ -200,14 +204,18 @@ fn failed_calls_are_told(rt: HostRuntime) -> Result<(), Fail> {
             "call {call} and the next fail"
         );
     }
-    let (answered, answer) = checked(alloc, MODEL, log.as_bytes(), 1_000_000, &[7])?;
+    let (answered, answer) = checked(&rt, alloc, MODEL, log.as_bytes(), 1_000_000, &[7])?;
     assert_eq!(rt; answered, 6, "the write fails");
     assert_eq!(rt; answer.as_slice(), b"".as_slice(), "the write fails");
-    let (answered, answer) = checked(alloc, MODEL, log.as_bytes(), 1_000_000, &[8])?;
+    let (answered, answer) = checked(&rt, alloc, MODEL, log.as_bytes(), 1_000_000, &[8])?;
     assert_eq!(rt; answered, 0, "there are seven calls");
     for words in [["check", "absent", "l"], ["check", "m", "absent"]] {
         let mut desk = desk_of(alloc, MODEL, log.as_bytes(), 1_000_000, &[])?;
-        assert_eq!(rt; run(alloc, &words, &mut desk), 5, "at {words:?}");
+        assert_eq!(rt;
+            run(&rt, alloc, &words, &mut desk, &Open),
+            5,
+            "at {words:?}"
+        );
         assert_eq!(rt; desk.written(Out::Answer), Some(b"read fault\n".as_slice()));
     }
     Ok(())
@@ -224,7 +232,7 @@ fn long_logs_are_read_whole(rt: HostRuntime) -> Result<(), Fail> {
     }
     log.extend_from_slice(b" 2 3 4 5 6 7\nc UNSAT\n")?;
     let mut desk = desk_of(alloc, MODEL, log.as_slice(), 1_000_000, &[])?;
-    assert_eq!(rt; run(alloc, &["check", "m", "l"], &mut desk), 0);
+    assert_eq!(rt; run(&rt, alloc, &["check", "m", "l"], &mut desk, &Open), 0);
     assert_eq!(rt; desk.written(Out::Answer), Some(ACCEPTED.as_bytes()));
     Ok(())
 }
@@ -316,7 +324,7 @@ const KINDS: [(&str, &str, &str); 16] = [
 fn logs_of_each_kind_are_accepted(rt: HostRuntime) -> Result<(), Fail> {
     let alloc = rt.alloc();
     for (name, model, log) in KINDS {
-        let (status, answer) = checked(alloc, model, log.as_bytes(), 1_000_000, &[])?;
+        let (status, answer) = checked(&rt, alloc, model, log.as_bytes(), 1_000_000, &[])?;
         assert_eq!(rt; status, 0, "{name}");
         assert_eq!(rt; answer.as_slice(), ACCEPTED.as_bytes(), "{name}");
     }
@@ -342,7 +350,7 @@ const WRONG: [(&str, &str, &str, &str); 2] = [
 fn what_does_not_follow_is_refused(rt: HostRuntime) -> Result<(), Fail> {
     let alloc = rt.alloc();
     for (name, model, log, text) in WRONG {
-        let (status, answer) = checked(alloc, model, log.as_bytes(), 1_000_000, &[])?;
+        let (status, answer) = checked(&rt, alloc, model, log.as_bytes(), 1_000_000, &[])?;
         assert_eq!(rt; status, 1, "{name}");
         assert_eq!(rt; answer.as_slice(), text.as_bytes(), "{name}");
     }
@@ -371,7 +379,7 @@ fn models_are_refused_at_their_place(rt: HostRuntime) -> Result<(), Fail> {
     let alloc = rt.alloc();
     for (model, refusal) in REFUSED_MODELS {
         let text = format!(in alloc; "model refused: {refusal}\n")?;
-        let (status, answer) = checked(alloc, model, b"", 1_000_000, &[])?;
+        let (status, answer) = checked(&rt, alloc, model, b"", 1_000_000, &[])?;
         assert_eq!(rt; status, 3, "{model}");
         assert_eq!(rt; answer.as_slice(), text.as_bytes(), "{model}");
     }
@@ -412,7 +420,7 @@ fn each_test_has_its_place(rt: HostRuntime) -> Result<(), Fail> {
     for (line, why) in REFUSED_LINES {
         let log = format!(in alloc; "{KNOWN}{line}\n")?;
         let text = format!(in alloc; "refused: {why} at line 5\n{line}\n")?;
-        let (status, answer) = checked(alloc, MINIMUM, log.as_bytes(), 1_000_000, &[])?;
+        let (status, answer) = checked(&rt, alloc, MINIMUM, log.as_bytes(), 1_000_000, &[])?;
         assert_eq!(rt; status, 1, "{line}");
         assert_eq!(rt; answer.as_slice(), text.as_bytes(), "{line}");
     }

@@ -4,8 +4,10 @@ use crate::runs::{MODEL, STEPS, answered, front};
 use dp_base::{Memory, Name, Text};
 use dp_command::run;
 use dp_desk::{HonestDesk, Out};
+use dp_pool::Open;
 use std::alloc::{AllocError, Global};
 use std::test::Fail;
+use std::thread::Threads;
 
 // What is written behind the steps of a log that proves the model.
 const END: &str = "n 8 0 1 2 3 4 5 6 7\nc UNSAT\n";
@@ -24,8 +26,12 @@ fn honest_desk(alloc: Global, log: &str, room: usize) -> Result<HonestDesk, Memo
 }
 
 // The status and the answer of a check of a log.
-fn checked(alloc: Global, log: &[u8]) -> Result<(u8, Vec<u8>), AllocError> {
-    answered(alloc, &["check", "m", "l"], MODEL, log, 1_000_000, &[])
+fn checked<R: Threads + Sync>(
+    rt: &R,
+    alloc: Global,
+    log: &[u8],
+) -> Result<(u8, Vec<u8>), AllocError> {
+    answered(rt, alloc, &["check", "m", "l"], MODEL, log, 1_000_000, &[])
 }
 
 #[test]
@@ -33,7 +39,7 @@ fn a_log_is_judged_over_a_desk_that_never_fails(rt: HostRuntime) -> Result<(), F
     let alloc = rt.alloc();
     let log = format!(in alloc; "{STEPS}{END}")?;
     let mut desk = honest_desk(alloc, log.as_str(), 16)?;
-    assert_eq!(rt; run(alloc, &["check", "m", "l"], &mut desk), 0);
+    assert_eq!(rt; run(&rt, alloc, &["check", "m", "l"], &mut desk, &Open), 0);
     assert_eq!(rt; desk.written(Out::Answer), Some(ACCEPTED.as_bytes()));
     Ok(())
 }
@@ -42,7 +48,10 @@ fn a_log_is_judged_over_a_desk_that_never_fails(rt: HostRuntime) -> Result<(), F
 fn a_name_without_a_file_is_an_empty_log(rt: HostRuntime) -> Result<(), Fail> {
     let alloc = rt.alloc();
     let mut desk = honest_desk(alloc, "", 100)?;
-    assert_eq!(rt; run(alloc, &["check", "m", "absent"], &mut desk), 1);
+    assert_eq!(rt;
+        run(&rt, alloc, &["check", "m", "absent"], &mut desk, &Open),
+        1
+    );
     assert_eq!(rt;
         desk.written(Out::Answer),
         Some(b"refused: NoConclusion at line 1\n".as_slice())
@@ -55,7 +64,7 @@ fn an_answer_past_the_room_is_no_fault(rt: HostRuntime) -> Result<(), Fail> {
     let alloc = rt.alloc();
     let log = format!(in alloc; "{STEPS}{END}")?;
     let mut desk = honest_desk(alloc, log.as_str(), 15)?;
-    assert_eq!(rt; run(alloc, &["check", "m", "l"], &mut desk), 0);
+    assert_eq!(rt; run(&rt, alloc, &["check", "m", "l"], &mut desk, &Open), 0);
     assert_eq!(rt; desk.written(Out::Answer), None);
     Ok(())
 }
@@ -65,7 +74,7 @@ fn fronts_of_a_log_are_refused(rt: HostRuntime) -> Result<(), Fail> {
     let alloc = rt.alloc();
     let log = format!(in alloc; "{STEPS}{END}")?;
     for count in 0..270 {
-        let (status, _answer) = checked(alloc, front(log.as_bytes(), count))?;
+        let (status, _answer) = checked(&rt, alloc, front(log.as_bytes(), count))?;
         assert_eq!(rt; status, 1, "{count} bytes");
     }
     Ok(())
@@ -77,7 +86,7 @@ fn all_but_the_last_end_of_line_is_accepted(rt: HostRuntime) -> Result<(), Fail>
     let log = format!(in alloc; "{STEPS}{END}")?;
     assert_eq!(rt; log.len(), 271);
     for count in [270, 271] {
-        let (status, answer) = checked(alloc, front(log.as_bytes(), count))?;
+        let (status, answer) = checked(&rt, alloc, front(log.as_bytes(), count))?;
         assert_eq!(rt; status, 0, "{count} bytes");
         assert_eq!(rt; answer.as_slice(), ACCEPTED.as_bytes(), "{count} bytes");
     }
@@ -99,7 +108,7 @@ fn large_numbers_are_told(rt: HostRuntime) -> Result<(), Fail> {
         ("i 1 0 5", "refused: UnknownAtom 5 at line 1\ni 1 0 5\n"),
     ];
     for (log, want) in rows {
-        let (status, answer) = checked(alloc, log.as_bytes())?;
+        let (status, answer) = checked(&rt, alloc, log.as_bytes())?;
         assert_eq!(rt; status, 1, "{log}");
         assert_eq!(rt; answer.as_slice(), want.as_bytes(), "{log}");
     }

@@ -2,6 +2,7 @@ use crate::runs::desk_of;
 use dp_base::{Name, Text};
 use dp_command::run;
 use dp_desk::{MemoryDesk, Out};
+use dp_pool::Open;
 use std::alloc::{AllocError, Global};
 use std::test::Fail;
 
@@ -29,7 +30,10 @@ fn holds(desk: &MemoryDesk, answer: &str, model: Option<&str>, scaffold: Option<
 fn a_family_of_two_blocks(rt: HostRuntime) -> Result<(), Fail> {
     let alloc = rt.alloc();
     let mut desk = empty_desk(alloc, 1_000_000, &[])?;
-    assert_eq!(rt; run(alloc, &["gen", "2", "m", "s"], &mut desk), 0);
+    assert_eq!(rt;
+        run(&rt, alloc, &["gen", "2", "m", "s"], &mut desk, &Open),
+        0
+    );
     assert!(rt; holds(&desk, SIZES, Some(MODEL), Some(SCAFFOLD)));
     Ok(())
 }
@@ -48,7 +52,7 @@ fn each_failed_call_is_told(rt: HostRuntime) -> Result<(), Fail> {
     for (call, model, scaffold) in rows {
         let mut desk = empty_desk(alloc, 1_000_000, &[call])?;
         assert_eq!(rt;
-            run(alloc, &["gen", "2", "m", "s"], &mut desk),
+            run(&rt, alloc, &["gen", "2", "m", "s"], &mut desk, &Open),
             6,
             "call {call} fails"
         );
@@ -88,19 +92,22 @@ fn a_family_is_processed_and_its_log_accepted(rt: HostRuntime) -> Result<(), Fai
     let alloc = rt.alloc();
     for (n, sizes, counts) in PROCESSED {
         let mut desk = empty_desk(alloc, 1_000_000, &[])?;
-        assert_eq!(rt; run(alloc, &["gen", n, "m", "s"], &mut desk), 0);
+        assert_eq!(rt; run(&rt, alloc, &["gen", n, "m", "s"], &mut desk, &Open), 0);
         assert_eq!(rt; desk.written(Out::Answer), Some(sizes.as_bytes()));
         let model = output_of(alloc, &desk, Out::First)?;
         let again = model.as_slice().to_vec(alloc)?;
         let scaffold = output_of(alloc, &desk, Out::Second)?;
 
         let mut desk = desk_with(alloc, model, scaffold)?;
-        assert_eq!(rt; run(alloc, &["process", "m", "l", "o"], &mut desk), 0);
+        assert_eq!(rt;
+            run(&rt, alloc, &["process", "m", "l", "o"], &mut desk, &Open),
+            0
+        );
         assert_eq!(rt; desk.written(Out::Answer), Some(counts.as_bytes()));
         let log = output_of(alloc, &desk, Out::First)?;
 
         let mut desk = desk_with(alloc, again, log)?;
-        assert_eq!(rt; run(alloc, &["check", "m", "l"], &mut desk), 0);
+        assert_eq!(rt; run(&rt, alloc, &["check", "m", "l"], &mut desk, &Open), 0);
         assert_eq!(rt;
             desk.written(Out::Answer),
             Some(b"accepted: UNSAT\n".as_slice())

@@ -55,7 +55,7 @@ fn a_refused_line_comes_before_the_next_read(rt: HostRuntime) -> Result<(), Fail
         } else {
             &["process", "m", "l", "o"]
         };
-        let (ended, answer) = answered(alloc, words, MODEL, log.as_bytes(), 16, &[call])?;
+        let (ended, answer) = answered(&rt, alloc, words, MODEL, log.as_bytes(), 16, &[call])?;
         assert_eq!(rt; ended, status, "{name}");
         assert_eq!(rt; answer.as_slice(), text.as_bytes(), "{name}");
     }
@@ -76,7 +76,7 @@ fn an_unfinished_line_waits(rt: HostRuntime) -> Result<(), Fail> {
     for (name, call, status, text) in rows {
         let log =
             b"q and more than sixteen bytes\nc UNSAT\n\n\n\n\n\n\n\n\n\n\n\n\n\n\n\n\n\n\n\n\n\n";
-        let (ended, answer) = answered(alloc, &words, MODEL, log.as_slice(), 16, &[call])?;
+        let (ended, answer) = answered(&rt, alloc, &words, MODEL, log.as_slice(), 16, &[call])?;
         assert_eq!(rt; ended, status, "{name}");
         assert_eq!(rt; answer.as_slice(), text.as_bytes(), "{name}");
     }
@@ -87,7 +87,7 @@ fn an_unfinished_line_waits(rt: HostRuntime) -> Result<(), Fail> {
 #[test]
 fn no_file_is_opened_for_a_refused_scaffold(rt: HostRuntime) -> Result<(), Fail> {
     let words = ["process", "m", "l", "o"];
-    let left = left_by(rt.alloc(), &words, MODEL, REFUSED.as_bytes(), 16, &[])?;
+    let left = left_by(&rt, rt.alloc(), &words, MODEL, REFUSED.as_bytes(), 16, &[])?;
     assert!(rt; left.is(1, b"refused: Form at line 1 byte 1\n", None));
     Ok(())
 }

@@ -1,6 +1,7 @@
 use crate::runs::{DIFFERENT, Left, MINIMUM, MODEL, STEPS, front, left_by};
 use std::alloc::{AllocError, Global};
 use std::test::Fail;
+use std::thread::Threads;
 
 // What is written behind the steps of a log that proves the model.
 const END: &str = "n 8 0 1 2 3 4 5 6 7\nc UNSAT\n";
@@ -95,7 +96,8 @@ const CLAIMS: [(&str, &str, &str, u32); 11] = [
 ];
 
 // What is left where a scaffold of a model is processed.
-fn processed(
+fn processed<R: Threads + Sync>(
+    rt: &R,
     alloc: Global,
     model: &str,
     scaffold: &str,
@@ -103,24 +105,39 @@ fn processed(
     failing: &[u64],
 ) -> Result<Left, AllocError> {
     let words = ["process", "m", "l", "o"];
-    left_by(alloc, &words, model, scaffold.as_bytes(), piece, failing)
+    left_by(
+        rt,
+        alloc,
+        &words,
+        model,
+        scaffold.as_bytes(),
+        piece,
+        failing,
+    )
 }
 
 // Whether a scaffold of a model is refused with this answer.
-fn refuses(alloc: Global, model: &str, scaffold: &str, answer: &str) -> Result<bool, AllocError> {
-    let left = processed(alloc, model, scaffold, 1_000_000, &[])?;
+fn refuses<R: Threads + Sync>(
+    rt: &R,
+    alloc: Global,
+    model: &str,
+    scaffold: &str,
+    answer: &str,
+) -> Result<bool, AllocError> {
+    let left = processed(rt, alloc, model, scaffold, 1_000_000, &[])?;
     Ok(left.is(1, answer.as_bytes(), None))
 }
 
 // Whether a scaffold of a model becomes this log, with this answer.
-fn becomes(
+fn becomes<R: Threads + Sync>(
+    rt: &R,
     alloc: Global,
     model: &str,
     scaffold: &str,
     log: &str,
     answer: &str,
 ) -> Result<bool, AllocError> {
-    let left = processed(alloc, model, scaffold, 1_000_000, &[])?;
+    let left = processed(rt, alloc, model, scaffold, 1_000_000, &[])?;
     Ok(left.is(0, answer.as_bytes(), Some(log.as_bytes())))
 }
 
@@ -128,7 +145,7 @@ fn becomes(
 fn a_claim_alone_is_justified(rt: HostRuntime) -> Result<(), Fail> {
     let alloc = rt.alloc();
     let log = format!(in alloc; "{STEPS}{END}")?;
-    assert!(rt; becomes(alloc, MODEL, "c UNSAT\n", log.as_str(), PROCESSED)?);
+    assert!(rt; becomes(&rt, alloc, MODEL, "c UNSAT\n", log.as_str(), PROCESSED)?);
     Ok(())
 }
 
@@ -136,7 +153,7 @@ fn a_claim_alone_is_justified(rt: HostRuntime) -> Result<(), Fail> {
 fn nogoods_that_are_needed_are_kept(rt: HostRuntime) -> Result<(), Fail> {
     let alloc = rt.alloc();
     let answer = "processed: 1 of 2 nogoods kept, 6 steps\n";
-    assert!(rt; becomes(alloc, CLAUSES, LEARNED, KEPT, answer)?);
+    assert!(rt; becomes(&rt, alloc, CLAUSES, LEARNED, KEPT, answer)?);
     Ok(())
 }
 
@@ -146,7 +163,7 @@ fn claims_of_each_kind_are_justified(rt: HostRuntime) -> Result<(), Fail> {
     for (model, scaffold, log, steps) in CLAIMS {
         let answer = format!(in alloc; "processed: 0 of 0 nogoods kept, {steps} steps\n")?;
         assert!(rt;
-            becomes(alloc, model, scaffold, log, answer.as_str())?,
+            becomes(&rt, alloc, model, scaffold, log, answer.as_str())?,
             "{model}"
         );
     }
@@ -171,7 +188,7 @@ fn bounds_are_justified(rt: HostRuntime) -> Result<(), Fail> {
     let alloc = rt.alloc();
     for (scaffold, log, answer) in BOUNDS {
         assert!(rt;
-            becomes(alloc, MINIMUM, scaffold, log, answer)?,
+            becomes(&rt, alloc, MINIMUM, scaffold, log, answer)?,
             "{scaffold}"
         );
     }
@@ -209,7 +226,7 @@ const OPEN_NOGOODS: [(&str, &str, &str, &str); 4] = [
 fn what_does_not_follow_is_told(rt: HostRuntime) -> Result<(), Fail> {
     let alloc = rt.alloc();
     for (name, model, scaffold, answer) in OPEN_NOGOODS {
-        assert!(rt; refuses(alloc, model, scaffold, answer)?, "{name}");
+        assert!(rt; refuses(&rt, alloc, model, scaffold, answer)?, "{name}");
     }
     Ok(())
 }
@@ -243,18 +260,18 @@ fn each_test_of_a_scaffold_has_its_name(rt: HostRuntime) -> Result<(), Fail> {
     for (scaffold, refusal) in REFUSALS {
         let answer = format!(in alloc; "refused: {refusal}")?;
         assert!(rt;
-            refuses(alloc, MINIMUM, scaffold, answer.as_str())?,
+            refuses(&rt, alloc, MINIMUM, scaffold, answer.as_str())?,
             "{scaffold}"
         );
     }
     let answer = "refused: NoGoal at line 2\nc 1\n";
-    assert!(rt; refuses(alloc, FREE, "a 1 [p >= 1]\nc 1\n", answer)?);
+    assert!(rt; refuses(&rt, alloc, FREE, "a 1 [p >= 1]\nc 1\n", answer)?);
     Ok(())
 }
 
 #[test]
 fn refused_models_are_told_first(rt: HostRuntime) -> Result<(), Fail> {
-    let left = processed(rt.alloc(), "#", "c UNSAT\n", 1_000_000, &[5])?;
+    let left = processed(&rt, rt.alloc(), "#", "c UNSAT\n", 1_000_000, &[5])?;
     assert!(rt; left.is(3, b"model refused: BadByte at byte 0\n", None));
     Ok(())
 }
@@ -264,7 +281,7 @@ fn refused_models_are_told_first(rt: HostRuntime) -> Result<(), Fail> {
 fn failed_reads_of_a_scaffold_are_told(rt: HostRuntime) -> Result<(), Fail> {
     let alloc = rt.alloc();
     for call in 1..14 {
-        let left = processed(alloc, MODEL, "c UNSAT\n", 16, &[call])?;
+        let left = processed(&rt, alloc, MODEL, "c UNSAT\n", 16, &[call])?;
         assert!(rt; left.is(5, b"read fault\n", None), "call {call} fails");
     }
     Ok(())
@@ -275,10 +292,10 @@ fn failed_reads_of_a_scaffold_are_told(rt: HostRuntime) -> Result<(), Fail> {
 fn failed_writes_of_a_log_are_told(rt: HostRuntime) -> Result<(), Fail> {
     let alloc = rt.alloc();
     let log = format!(in alloc; "{STEPS}{END}")?;
-    let left = processed(alloc, MODEL, "c UNSAT\n", 16, &[14])?;
+    let left = processed(&rt, alloc, MODEL, "c UNSAT\n", 16, &[14])?;
     assert!(rt; left.is(6, b"", None), "opening the file fails");
     for call in 15..32 {
-        let left = processed(alloc, MODEL, "c UNSAT\n", 16, &[call])?;
+        let left = processed(&rt, alloc, MODEL, "c UNSAT\n", 16, &[call])?;
         let file = front(log.as_bytes(), 16 * (call as usize - 15));
         assert!(rt; left.is(6, b"", Some(file)), "call {call} fails");
     }
@@ -290,14 +307,14 @@ fn failed_writes_behind_a_log_are_told(rt: HostRuntime) -> Result<(), Fail> {
     let alloc = rt.alloc();
     let log = format!(in alloc; "{STEPS}{END}")?;
     for (call, count) in [(32, 0), (33, 16), (34, 32)] {
-        let left = processed(alloc, MODEL, "c UNSAT\n", 16, &[call])?;
+        let left = processed(&rt, alloc, MODEL, "c UNSAT\n", 16, &[call])?;
         let answer = front(PROCESSED.as_bytes(), count);
         assert!(rt;
             left.is(6, answer, Some(log.as_bytes())),
             "call {call} fails"
         );
     }
-    let left = processed(alloc, MODEL, "c UNSAT\n", 16, &[35])?;
+    let left = processed(&rt, alloc, MODEL, "c UNSAT\n", 16, &[35])?;
     assert!(rt;
         left.is(0, PROCESSED.as_bytes(), Some(log.as_bytes())),
         "there are 34 calls"

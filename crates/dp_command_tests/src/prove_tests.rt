@@ -1,6 +1,7 @@
 use crate::runs::{DIFFERENT, Left, MINIMUM, MODEL, front, left_by};
 use std::alloc::{AllocError, Global};
 use std::test::Fail;
+use std::thread::Threads;
 
 // Two tasks that share a capacity, the second of which starts within two steps.
 const TASKS: &str =
@@ -18,8 +19,14 @@ const GREATEST: &str =
 const REFUTED: &str = "=====UNSATISFIABLE=====\naccepted: UNSAT\n";
 
 // What is left where a model is proved. The file of the other name holds no log.
-fn proved(alloc: Global, model: &str, piece: usize, failing: &[u64]) -> Result<Left, AllocError> {
-    left_by(alloc, &["prove", "m"], model, b"x", piece, failing)
+fn proved<R: Threads + Sync>(
+    rt: &R,
+    alloc: Global,
+    model: &str,
+    piece: usize,
+    failing: &[u64],
+) -> Result<Left, AllocError> {
+    left_by(rt, alloc, &["prove", "m"], model, b"x", piece, failing)
 }
 
 #[test]
@@ -42,7 +49,7 @@ fn outcomes_are_told(rt: HostRuntime) -> Result<(), Fail> {
     ];
     for (model, answer) in rows {
         for piece in [16, 1_000_000] {
-            let left = proved(alloc, model, piece, &[])?;
+            let left = proved(&rt, alloc, model, piece, &[])?;
             assert!(rt; left.is(0, answer.as_bytes(), None), "{model}");
         }
     }
@@ -55,7 +62,7 @@ fn no_more_nogoods_are_learned(rt: HostRuntime) -> Result<(), Fail> {
     let rows = [("1", 4, "=====UNKNOWN=====\n"), ("4000000000", 0, REFUTED)];
     for (conflicts, status, answer) in rows {
         let words = ["prove", "m", "--conflicts", conflicts];
-        let left = left_by(alloc, &words, DIFFERENT, b"", 1_000_000, &[])?;
+        let left = left_by(&rt, alloc, &words, DIFFERENT, b"", 1_000_000, &[])?;
         assert!(rt; left.is(status, answer.as_bytes(), None), "{conflicts}");
     }
     Ok(())
@@ -64,9 +71,9 @@ fn no_more_nogoods_are_learned(rt: HostRuntime) -> Result<(), Fail> {
 #[test]
 fn a_refused_model_is_not_proved(rt: HostRuntime) -> Result<(), Fail> {
     let alloc = rt.alloc();
-    let left = proved(alloc, "#", 1_000_000, &[])?;
+    let left = proved(&rt, alloc, "#", 1_000_000, &[])?;
     assert!(rt; left.is(3, b"model refused: BadByte at byte 0\n", None));
-    let left = left_by(alloc, &["prove", "absent"], MODEL, b"", 1_000_000, &[])?;
+    let left = left_by(&rt, alloc, &["prove", "absent"], MODEL, b"", 1_000_000, &[])?;
     assert!(rt; left.is(5, b"read fault\n", None));
     Ok(())
 }
@@ -76,15 +83,15 @@ fn a_refused_model_is_not_proved(rt: HostRuntime) -> Result<(), Fail> {
 fn failed_calls_are_told(rt: HostRuntime) -> Result<(), Fail> {
     let alloc = rt.alloc();
     for call in 1..11 {
-        let left = proved(alloc, MODEL, 16, &[call])?;
+        let left = proved(&rt, alloc, MODEL, 16, &[call])?;
         assert!(rt; left.is(5, b"read fault\n", None), "call {call} fails");
     }
     let text = REFUTED.as_bytes();
     for (call, count) in [(11, 0), (12, 16), (13, 32)] {
-        let left = proved(alloc, MODEL, 16, &[call])?;
+        let left = proved(&rt, alloc, MODEL, 16, &[call])?;
         assert!(rt; left.is(6, front(text, count), None), "call {call} fails");
     }
-    let left = proved(alloc, MODEL, 16, &[14])?;
+    let left = proved(&rt, alloc, MODEL, 16, &[14])?;
     assert!(rt; left.is(0, text, None), "there are 13 calls");
     Ok(())
 }

@@ -2,7 +2,9 @@
 use dp_base::{Name, Text};
 use dp_command::run;
 use dp_desk::{MemoryDesk, Out};
+use dp_pool::Open;
 use std::alloc::{AllocError, Global};
+use std::thread::Threads;
 
 // Two inequalities that no x and y meet together.
 pub const MODEL: &str =
@@ -36,7 +38,8 @@ pub fn desk_of(
 }
 
 // The status and the answer of a run over a desk with a model and a log.
-pub fn answered(
+pub fn answered<R: Threads + Sync>(
+    rt: &R,
     alloc: Global,
     words: &[&str],
     model: &str,
@@ -45,7 +48,7 @@ pub fn answered(
     failing: &[u64],
 ) -> Result<(u8, Vec<u8>), AllocError> {
     let mut desk = desk_of(alloc, model, log, piece, failing)?;
-    let status = run(alloc, words, &mut desk);
+    let status = run(rt, alloc, words, &mut desk, &Open);
     let answer = desk.written(Out::Answer).unwrap_or(b"not told");
     Ok((status, answer.to_vec(alloc)?))
 }
@@ -75,7 +78,8 @@ fn is_file(left: &Option<Vec<u8>>, wanted: Option<&[u8]>) -> bool {
 }
 
 // What is left by a run over a desk with a model and a log.
-pub fn left_by(
+pub fn left_by<R: Threads + Sync>(
+    rt: &R,
     alloc: Global,
     words: &[&str],
     model: &str,
@@ -84,7 +88,7 @@ pub fn left_by(
     failing: &[u64],
 ) -> Result<Left, AllocError> {
     let mut desk = desk_of(alloc, model, log, piece, failing)?;
-    let status = run(alloc, words, &mut desk);
+    let status = run(rt, alloc, words, &mut desk, &Open);
     let answer = desk.written(Out::Answer).unwrap_or(b"not told");
     let answer = answer.to_vec(alloc)?;
     let file = match desk.written(Out::First) {

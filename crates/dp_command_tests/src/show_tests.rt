@@ -1,6 +1,7 @@
 use crate::runs::{STEPS, answered};
 use std::alloc::{AllocError, Global};
 use std::test::Fail;
+use std::thread::Threads;
 
 // What is shown of a whole log up to its conclusion's nogood.
 const SHOWN_STEPS: &str =
@@ -17,13 +18,14 @@ const REFUSED: &str = "a 1 [x >= 1]\nn 1 1\nn 2 1 -3\nc UNSAT\n";
 const SHOWN_REFUSED: &str = "1: not ([x >= 1])\nrefused: UnknownAtom -3 at line 3\nn 2 1 -3\n";
 
 // Shows a log beside a text that is no model, and gives back the status and the answer.
-fn shown(
+fn shown<R: Threads + Sync>(
+    rt: &R,
     alloc: Global,
     log: &[u8],
     piece: usize,
     failing: &[u64],
 ) -> Result<(u8, Vec<u8>), AllocError> {
-    answered(alloc, &["show", "l"], "#", log, piece, failing)
+    answered(rt, alloc, &["show", "l"], "#", log, piece, failing)
 }
 
 #[test]
@@ -64,7 +66,7 @@ fn whole_logs_are_shown(rt: HostRuntime) -> Result<(), Fail> {
     ];
     for (name, log, text) in rows {
         for piece in [1, 16, 1_000_000] {
-            let (status, answer) = shown(alloc, log.as_bytes(), piece, &[])?;
+            let (status, answer) = shown(&rt, alloc, log.as_bytes(), piece, &[])?;
             assert_eq!(rt; status, 0, "{name}");
             assert_eq!(rt; answer.as_slice(), text.as_bytes(), "{name}");
         }
@@ -107,7 +109,7 @@ fn steps_before_a_refused_line_are_shown(rt: HostRuntime) -> Result<(), Fail> {
         let log = format!(in alloc; "a 1 [x >= 1]\ni 1 1 0\n\n{line}\nn 9 1\nd 1\n")?;
         let text = format!(in alloc; "1: [x >= 1] -> false\n{refusal}")?;
         for piece in [1, 1_000_000] {
-            let (status, answer) = shown(alloc, log.as_bytes(), piece, &[])?;
+            let (status, answer) = shown(&rt, alloc, log.as_bytes(), piece, &[])?;
             assert_eq!(rt; status, 1, "{line}");
             assert_eq!(rt; answer.as_slice(), text.as_bytes(), "{line}");
         }
@@ -122,14 +124,14 @@ fn failed_calls_are_told(rt: HostRuntime) -> Result<(), Fail> {
     let log = format!(in alloc; "{STEPS}{END}")?;
     for (log, done, write, behind) in [(log.as_str(), 0, 4, 5), (REFUSED, 1, 3, 4)] {
         for call in 1..write {
-            let (status, answer) = shown(alloc, log.as_bytes(), 1_000_000, &[call])?;
+            let (status, answer) = shown(&rt, alloc, log.as_bytes(), 1_000_000, &[call])?;
             assert_eq!(rt; status, 5, "call {call} fails");
             assert_eq!(rt;
                 answer.as_slice(),
                 b"read fault\n".as_slice(),
                 "call {call} fails"
             );
-            let (status, answer) = shown(alloc, log.as_bytes(), 1_000_000, &[call, call + 1])?;
+            let (status, answer) = shown(&rt, alloc, log.as_bytes(), 1_000_000, &[call, call + 1])?;
             assert_eq!(rt; status, 6, "call {call} and the next fail");
             assert_eq!(rt;
                 answer.as_slice(),
@@ -137,13 +139,14 @@ fn failed_calls_are_told(rt: HostRuntime) -> Result<(), Fail> {
                 "call {call} and the next fail"
             );
         }
-        let (status, answer) = shown(alloc, log.as_bytes(), 1_000_000, &[write])?;
+        let (status, answer) = shown(&rt, alloc, log.as_bytes(), 1_000_000, &[write])?;
         assert_eq!(rt; status, 6, "the write fails");
         assert_eq!(rt; answer.as_slice(), b"".as_slice(), "the write fails");
-        let (status, _) = shown(alloc, log.as_bytes(), 1_000_000, &[behind])?;
+        let (status, _) = shown(&rt, alloc, log.as_bytes(), 1_000_000, &[behind])?;
         assert_eq!(rt; status, done, "no call follows");
     }
     let (status, answer) = answered(
+        &rt,
         alloc,
         &["show", "absent"],
         "#",
@@ -165,7 +168,7 @@ fn failed_calls_are_told(rt: HostRuntime) -> Result<(), Fail> {
 fn a_failed_call_in_the_middle_is_told(rt: HostRuntime) -> Result<(), Fail> {
     let alloc = rt.alloc();
     for call in 1..4 {
-        let (status, answer) = shown(alloc, REFUSED.as_bytes(), 16, &[call])?;
+        let (status, answer) = shown(&rt, alloc, REFUSED.as_bytes(), 16, &[call])?;
         assert_eq!(rt; status, 5, "call {call} fails");
         assert_eq!(rt;
             answer.as_slice(),
@@ -174,7 +177,7 @@ fn a_failed_call_in_the_middle_is_told(rt: HostRuntime) -> Result<(), Fail> {
         );
     }
     for (call, written) in [(4, 0), (5, 16), (6, 32), (7, 48)] {
-        let (status, answer) = shown(alloc, REFUSED.as_bytes(), 16, &[call])?;
+        let (status, answer) = shown(&rt, alloc, REFUSED.as_bytes(), 16, &[call])?;
         assert_eq!(rt; status, 6, "call {call} fails");
         assert_eq!(rt;
             Some(answer.as_slice()),
@@ -182,7 +185,7 @@ fn a_failed_call_in_the_middle_is_told(rt: HostRuntime) -> Result<(), Fail> {
             "call {call} fails"
         );
     }
-    let (status, answer) = shown(alloc, REFUSED.as_bytes(), 16, &[8])?;
+    let (status, answer) = shown(&rt, alloc, REFUSED.as_bytes(), 16, &[8])?;
     assert_eq!(rt; status, 1, "there are seven calls");
     assert_eq!(rt;
         answer.as_slice(),
@@ -204,7 +207,7 @@ fn long_logs_are_shown_whole(rt: HostRuntime) -> Result<(), Fail> {
     }
     log.extend_from_slice(b"\nc UNSAT")?;
     text.extend_from_slice(b"\nconclusion: UNSAT\n")?;
-    let (status, answer) = shown(alloc, log.as_slice(), 1_000_000, &[])?;
+    let (status, answer) = shown(&rt, alloc, log.as_slice(), 1_000_000, &[])?;
     assert_eq!(rt; status, 0);
     assert_eq!(rt; answer.as_slice(), text.as_slice());
     Ok(())

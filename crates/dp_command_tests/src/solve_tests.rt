@@ -1,6 +1,7 @@
 use crate::runs::{DIFFERENT, Left, MINIMUM, MODEL, answered, front, left_by};
 use std::alloc::{AllocError, Global};
 use std::test::Fail;
+use std::thread::Threads;
 
 // Two tasks that share a capacity, the second of which starts within two steps.
 const TASKS: &str =
@@ -19,23 +20,35 @@ const GREATEST: &str =
     "var 0..9: x:: output_var;\nvar 0..9: y:: output_var;\nconstraint int_lin_le([1,1],[x,y],11);\nconstraint int_lin_le([1,-1],[x,y],-2);\nsolve maximize x;\n";
 
 // What is left where a model is solved.
-fn solved(alloc: Global, model: &str, piece: usize, failing: &[u64]) -> Result<Left, AllocError> {
-    left_by(alloc, &["solve", "m", "o"], model, b"", piece, failing)
+fn solved<R: Threads + Sync>(
+    rt: &R,
+    alloc: Global,
+    model: &str,
+    piece: usize,
+    failing: &[u64],
+) -> Result<Left, AllocError> {
+    left_by(rt, alloc, &["solve", "m", "o"], model, b"", piece, failing)
 }
 
 // What a check says of the log that the scaffold of a solved model is processed to.
-fn proved(alloc: Global, model: &str) -> Result<Vec<u8>, AllocError> {
-    let scaffold = file_of(alloc, &["solve", "m", "o"], model, b"")?;
+fn proved<R: Threads + Sync>(rt: &R, alloc: Global, model: &str) -> Result<Vec<u8>, AllocError> {
+    let scaffold = file_of(rt, alloc, &["solve", "m", "o"], model, b"")?;
     let words = ["process", "m", "l", "o"];
-    let log = file_of(alloc, &words, model, scaffold.as_slice())?;
+    let log = file_of(rt, alloc, &words, model, scaffold.as_slice())?;
     let words = ["check", "m", "l"];
-    let (_, answer) = answered(alloc, &words, model, log.as_slice(), 1_000_000, &[])?;
+    let (_, answer) = answered(rt, alloc, &words, model, log.as_slice(), 1_000_000, &[])?;
     Ok(answer)
 }
 
 // The file of a run over a desk with a model and a log.
-fn file_of(alloc: Global, words: &[&str], model: &str, log: &[u8]) -> Result<Vec<u8>, AllocError> {
-    let left = left_by(alloc, words, model, log, 1_000_000, &[])?;
+fn file_of<R: Threads + Sync>(
+    rt: &R,
+    alloc: Global,
+    words: &[&str],
+    model: &str,
+    log: &[u8],
+) -> Result<Vec<u8>, AllocError> {
+    let left = left_by(rt, alloc, words, model, log, 1_000_000, &[])?;
     Ok(left.file.unwrap_or(Vec::new(alloc)))
 }
 
@@ -60,7 +73,7 @@ fn solutions_are_printed(rt: HostRuntime) -> Result<(), Fail> {
     ];
     for (model, answer) in rows {
         for piece in [1, 16, 1_000_000] {
-            let left = solved(alloc, model, piece, &[])?;
+            let left = solved(&rt, alloc, model, piece, &[])?;
             assert!(rt; left.is(0, answer.as_bytes(), Some(b"")), "{model}");
         }
     }
@@ -70,16 +83,16 @@ fn solutions_are_printed(rt: HostRuntime) -> Result<(), Fail> {
 #[test]
 fn a_model_without_solutions_is_refuted(rt: HostRuntime) -> Result<(), Fail> {
     let alloc = rt.alloc();
-    let left = solved(alloc, MODEL, 1_000_000, &[])?;
+    let left = solved(&rt, alloc, MODEL, 1_000_000, &[])?;
     assert!(rt; left.is(0, b"=====UNSATISFIABLE=====\n", Some(b"c UNSAT\n")));
-    let left = solved(alloc, DIFFERENT, 1_000_000, &[])?;
+    let left = solved(&rt, alloc, DIFFERENT, 1_000_000, &[])?;
     assert_eq!(rt; left.status, 0);
     assert_eq!(rt;
         left.answer.as_slice(),
         b"=====UNSATISFIABLE=====\n".as_slice()
     );
     for model in [MODEL, DIFFERENT] {
-        let answer = proved(alloc, model)?;
+        let answer = proved(&rt, alloc, model)?;
         assert_eq!(rt; answer.as_slice(), b"accepted: UNSAT\n".as_slice());
     }
     Ok(())
@@ -106,10 +119,10 @@ fn best_solutions_are_printed(rt: HostRuntime) -> Result<(), Fail> {
         ),
     ];
     for (model, text, accepted) in rows {
-        let left = solved(alloc, model, 1_000_000, &[])?;
+        let left = solved(&rt, alloc, model, 1_000_000, &[])?;
         assert_eq!(rt; left.status, 0, "{model}");
         assert_eq!(rt; left.answer.as_slice(), text.as_bytes(), "{model}");
-        let answer = proved(alloc, model)?;
+        let answer = proved(&rt, alloc, model)?;
         assert_eq!(rt; answer.as_slice(), accepted.as_bytes(), "{model}");
     }
     Ok(())
@@ -119,7 +132,7 @@ fn best_solutions_are_printed(rt: HostRuntime) -> Result<(), Fail> {
 fn no_more_nogoods_are_learned(rt: HostRuntime) -> Result<(), Fail> {
     let alloc = rt.alloc();
     let words = ["solve", "m", "o", "--conflicts", "1"];
-    let left = left_by(alloc, &words, DIFFERENT, b"", 1_000_000, &[])?;
+    let left = left_by(&rt, alloc, &words, DIFFERENT, b"", 1_000_000, &[])?;
     assert_eq!(rt; left.status, 4);
     assert_eq!(rt; left.answer.as_slice(), b"=====UNKNOWN=====\n".as_slice());
     let scaffold = left.file.unwrap_or(Vec::new(alloc));
@@ -131,10 +144,10 @@ fn no_more_nogoods_are_learned(rt: HostRuntime) -> Result<(), Fail> {
 #[test]
 fn a_refused_model_is_not_solved(rt: HostRuntime) -> Result<(), Fail> {
     let alloc = rt.alloc();
-    let left = solved(alloc, "#", 1_000_000, &[])?;
+    let left = solved(&rt, alloc, "#", 1_000_000, &[])?;
     assert!(rt; left.is(3, b"model refused: BadByte at byte 0\n", None));
     let words = ["solve", "absent", "o"];
-    let left = left_by(alloc, &words, MODEL, b"", 1_000_000, &[])?;
+    let left = left_by(&rt, alloc, &words, MODEL, b"", 1_000_000, &[])?;
     assert!(rt; left.is(5, b"read fault\n", None));
     Ok(())
 }
@@ -145,20 +158,20 @@ fn a_refused_model_is_not_solved(rt: HostRuntime) -> Result<(), Fail> {
 fn failed_calls_are_told(rt: HostRuntime) -> Result<(), Fail> {
     let alloc = rt.alloc();
     for call in 1..11 {
-        let left = solved(alloc, MODEL, 16, &[call])?;
+        let left = solved(&rt, alloc, MODEL, 16, &[call])?;
         assert!(rt; left.is(5, b"read fault\n", None), "call {call} fails");
     }
-    let left = solved(alloc, MODEL, 16, &[11])?;
+    let left = solved(&rt, alloc, MODEL, 16, &[11])?;
     assert!(rt; left.is(6, b"", None), "opening the scaffold fails");
-    let left = solved(alloc, MODEL, 16, &[12])?;
+    let left = solved(&rt, alloc, MODEL, 16, &[12])?;
     assert!(rt; left.is(6, b"", Some(b"")), "writing the scaffold fails");
     let text = b"=====UNSATISFIABLE=====\n";
     for (call, count) in [(13, 0), (14, 16)] {
-        let left = solved(alloc, MODEL, 16, &[call])?;
+        let left = solved(&rt, alloc, MODEL, 16, &[call])?;
         let answer = front(text, count);
         assert!(rt; left.is(6, answer, Some(b"c UNSAT\n")), "call {call} fails");
     }
-    let left = solved(alloc, MODEL, 16, &[15])?;
+    let left = solved(&rt, alloc, MODEL, 16, &[15])?;
     assert!(rt; left.is(0, text, Some(b"c UNSAT\n")), "there are 14 calls");
     Ok(())
 }

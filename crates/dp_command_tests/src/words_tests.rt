@@ -1,6 +1,7 @@
 use crate::runs::{MODEL, desk_of};
 use dp_command::{Command, read_words, run};
 use dp_desk::Out;
+use dp_pool::Open;
 use std::test::Fail;
 
 #[test]
@@ -229,7 +230,7 @@ fn words_are_judged_first(rt: HostRuntime) -> Result<(), Fail> {
     ];
     for words in rows {
         let mut desk = desk_of(alloc, MODEL, b"", 1_000_000, &[2])?;
-        assert_eq!(rt; run(alloc, words, &mut desk), 2, "at {words:?}");
+        assert_eq!(rt; run(&rt, alloc, words, &mut desk, &Open), 2, "at {words:?}");
         assert_eq!(rt;
             desk.written(Out::Answer),
             Some(b"words not understood\n".as_slice())
@@ -239,7 +240,7 @@ fn words_are_judged_first(rt: HostRuntime) -> Result<(), Fail> {
     }
     let mut desk = desk_of(alloc, MODEL, b"", 4, &[3])?;
     assert_eq!(rt;
-        run(alloc, &["check"], &mut desk),
+        run(&rt, alloc, &["check"], &mut desk, &Open),
         6,
         "the third write fails"
     );

@@ -78,7 +78,15 @@ fn logs_are_checked(rt: HostRuntime) -> Result<(), Fail> {
     for (place, (model, pieces, status, answer)) in CHECKED.iter().enumerate() {
         for end in ["\n", "\r\n"] {
             let log = joined(alloc, *pieces, end)?;
-            let left = left_by(alloc, &["check", "m", "l"], *model, log.as_slice(), 16, &[])?;
+            let left = left_by(
+                &rt,
+                alloc,
+                &["check", "m", "l"],
+                *model,
+                log.as_slice(),
+                16,
+                &[],
+            )?;
             assert!(rt; left.is(*status, answer.as_bytes(), None), "log {place}");
         }
     }
@@ -89,7 +97,7 @@ fn logs_are_checked(rt: HostRuntime) -> Result<(), Fail> {
 fn a_schedule_is_processed(rt: HostRuntime) -> Result<(), Fail> {
     let words = ["process", "m", "l", "o"];
     let scaffold = b"a 1 [mk >= 5]\nc 1\n";
-    let left = left_by(rt.alloc(), &words, SCHEDULE, scaffold, 16, &[])?;
+    let left = left_by(&rt, rt.alloc(), &words, SCHEDULE, scaffold, 16, &[])?;
     let answer = b"processed: 0 of 0 nogoods kept, 6 steps\n";
     assert!(rt; left.is(0, answer, Some(SCHEDULE_LOG.as_bytes())));
     Ok(())
