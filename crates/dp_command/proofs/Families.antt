@@ -18,7 +18,7 @@ use Rattle.dp_command.specs.declared.reply.Reply.TheVariants.{NoCommand, ModelRe
 pub generated_at : (names : Option Files) (n : ℕ) (model scaffold : List ℕ) (family : Family) → IsFamily n model scaffold family →
     RepliesTo names (Gen n model scaffold) (Generated family)
 generated_at names n model scaffold family h = λ words asked.
-    record { n = n; model = model; scaffold = scaffold; asked = asked; family = h }
+    record { n = n; model = model; scaffold = scaffold; asked = asked; made = h }
 
 same_line : (a b c d e f : ℕ) → a ≡ d → b ≡ e → c ≡ f → generated_line a b c ≡ generated_line d e f
 same_line a b c d e f x y z =
@@ -39,11 +39,11 @@ files_by names words (Generated family) was now due gen e w = record {
   model = due.model;
   scaffold = due.scaffold;
   asked = due.asked;
-  first = subst (λ (t : List ℕ). Holds now.first t) due.family.model_text w.filed.0;
-  second = subst (λ (t : List ℕ). Holds now.second t) due.family.scaffold_text w.filed.1;
+  first = subst (λ (t : List ℕ). Holds now.first t) due.made.model_text w.filed.0;
+  second = subst (λ (t : List ℕ). Holds now.second t) due.made.scaffold_text w.filed.1;
   told =
       subst (λ (t : List ℕ). Grows was.answer now.answer t)
-      (same_line family.variables family.constraints family.nogoods (2 * due.n + 2) (2 * due.n + 2) (due.n + 1) due.family.variables due.family.constraints due.family.nogoods) w.told;
+      (same_line family.variables family.constraints family.nogoods (2 * due.n + 2) (2 * due.n + 2) (due.n + 1) due.made.variables due.made.constraints due.made.nogoods) w.told;
 }
 
 -- at status 0 the model and its scaffold stand in the files

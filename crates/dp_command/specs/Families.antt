@@ -24,7 +24,7 @@ pub record GeneratesFamily (words : List (List ℕ)) (family : Family) : Type 0 
   pub model : List ℕ
   pub scaffold : List ℕ
   pub asked : Spells (Gen n model scaffold) words
-  pub family : IsFamily n model scaffold family
+  pub made : IsFamily n model scaffold family
 
 -- The words ask for the model with so many blocks and its scaffold: the model stands in the first file and the scaffold in the
 -- second, and their sizes were told.

@@ -1,11 +1,11 @@
 // The command that generates a model and a scaffold of it.
 
-ghost use Rattle.std.specs.Prelude.{◌≤◌, ◌++◌, IfOk, codes};
+ghost use Rattle.std.specs.Prelude.{◌≡◌, ◌≤◌, ◌++◌, IfOk, codes};
 ghost use Rattle.std.specs.Fmt.{decimal};
 ghost use Rattle.dp_command.specs.Families.{IsFamily};
 ghost use Rattle.dp_command.specs.Texts as texts;
 
-use crate::outcome::File;
+use crate::outcome::{File, push_number};
 use dp_base::Memory;
 use dp_gen::{model_of, scaffold_of};
 use std::alloc::Global;
@@ -61,6 +61,9 @@ pub(crate) fn family_text(alloc: Global, family: &Family) -> Result<Vec<u8>, Mem
 fn sizes_text(alloc: Global, variables: u32, constraints: u32) -> Result<Vec<u8>, Memory>
     ensures { IfOk result (λ text. text.items ≡ codes "generated: " ++ decimal variables ++ codes " variables, " ++ decimal constraints) }
 {
-    let text = format!(in alloc; "generated: {variables} variables, {constraints}")?;
-    Ok(text.into_bytes())
+    let mut text = b"generated: ".to_vec(alloc)?;
+    push_number(&mut text, u64::from(variables))?;
+    text.extend_from_slice(b" variables, ")?;
+    push_number(&mut text, u64::from(constraints))?;
+    Ok(text)
 }

@@ -113,7 +113,8 @@ fn kept_text(alloc: Global, kept: u64, nogoods: u64) -> Result<Vec<u8>, Memory>
     Ok(text)
 }
 
-fn push_number(text: &mut Vec<u8>, number: u64) -> Result<(), Memory>
+/// The number's digits at the end of a text.
+pub(crate) fn push_number(text: &mut Vec<u8>, number: u64) -> Result<(), Memory>
     ensures { OnOk result (text.new.items ≡ text.old.items ++ decimal number) }
 {
     let digits = format!(in *text.allocator(); "{number}")?;

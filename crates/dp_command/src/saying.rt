@@ -44,8 +44,8 @@ fn write_files<D: Desk>(desk: &mut D, reply: &Reply) -> Result<(), Failed>
 // Writes a file, if it is one.
 fn write_file<D: Desk>(desk: &mut D, which: Out, file: Option<&File>) -> Result<(), Failed>
     requires { which ≢ Out.Answer }
-    ensures filed { OnOk result (IsFiled (option_map (λ f. f.now.text) file) (output which (D.sight desk.old)) (output which (D.sight desk.new))) }
-    ensures cut { OnErr result (IsCut (option_map (λ f. f.now.text) file) (output which (D.sight desk.old)) (output which (D.sight desk.new))) }
+    ensures filed { OnOk result (IsFiled (option_map (λ f. f.now.text) file.entry) (output which (D.sight desk.old)) (output which (D.sight desk.new))) }
+    ensures cut { OnErr result (IsCut (option_map (λ f. f.now.text) file.entry) (output which (D.sight desk.old)) (output which (D.sight desk.new))) }
     ensures rest { D.sight desk.new ≡ with_output which (output which (D.sight desk.new)) (D.sight desk.old) }
     ensures cause { HasCause (D.faults_out desk.old) (D.faults_out desk.new) result }
     ensures other { D.faults_in desk.new ≡ D.faults_in desk.old }
