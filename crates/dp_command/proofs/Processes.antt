@@ -22,7 +22,7 @@ use Rattle.dp_scaffold.specs.declared.refusal.ScaffoldRefusal.{ScaffoldRefusal}
 use Rattle.dp_writer.specs.Steps as steps
 use Rattle.fz_model.specs.Models.{Plan}
 use Rattle.dp_command.proofs.Checks.{given_of}
-use Rattle.dp_command.proofs.Requests.{check_is_no_process, process_proves_not, show_is_no_process}
+use Rattle.dp_command.proofs.Requests.{check_processes_not, gen_processes_not, process_proves_not, show_processes_not}
 use Rattle.fz_solve.specs.Solved.{Holds}
 use Rattle.dp_command.specs.Due.{IsFiled}
 use Rattle.dp_command.specs.Found.{IsFound}

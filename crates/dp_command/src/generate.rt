@@ -52,8 +52,9 @@ pub(crate) fn family_text(alloc: Global, family: &Family) -> Result<Vec<u8>, Mem
 {
     let mut text = sizes_text(alloc, family.variables, family.constraints)?;
     let nogoods = family.nogoods;
-    let end = format!(in alloc; " constraints, {nogoods} nogoods\n")?;
+    let end = format!(in alloc; " constraints, {nogoods} nogoods")?;
     text.extend_from_slice(end.as_bytes())?;
+    text.push(b'\n')?;
     Ok(text)
 }
 
