@@ -33,13 +33,23 @@ fn turns_of<L: Ledger>(
     most: u32,
 ) -> Result<Option<u32>, Memory> {
     for place in 1..most {
-        match engine.step(steps)? {
-            Turn::Atom(_, atom) if is_atom(&atom, &(place, Op::Le, 0)) => {}
-            Turn::Quiet => return Ok(Some(place - 1)),
-            _ => return Ok(None),
+        let turn = engine.step(steps)?;
+        if turn == Turn::Quiet {
+            return Ok(Some(place - 1));
+        }
+        if !gives(&turn, place) {
+            return Ok(None);
         }
     }
     Ok(None)
+}
+
+/// Whether the turn makes the variable at the place 0.
+fn gives(turn: &Turn, place: u32) -> bool {
+    match turn {
+        Turn::Atom(_, atom) => is_atom(atom, &(place, Op::Le, 0)),
+        _ => false,
+    }
 }
 
 fn counted<L: Ledger>(alloc: Global, count: u32, blank: Blank) -> Result<Option<u32>, Memory>

@@ -4,7 +4,7 @@ use Rattle.dp_command.proofs.Patience.{handed_on}
 use Rattle.dp_command.proofs.process.process_input.Goals as goal
 
 pub outcome_of-requires-clause-answer : goal.outcome_of-requires-clause-answer
-outcome_of-requires-clause-answer g c =
+outcome_of-requires-clause-answer g c κs within =
     scaffold_of (g.D.Desk.sight c.args.desk.now).names c.args.name.now c.args.problem.now c.in_ok-reading.reading.taker (g.D.Desk.sight c.judge_read.new.desk).log c.in_ok-answer.answer
     c.in_ok-reading.ensures.problem c.in_ok-answer.ensures.answer
 
