@@ -35,47 +35,6 @@ const TESTS: &[(&[Position], Place, Answer)] = &[
     (THREE, (&[(0, 1), (0, 1), (1, 2)], &[], &[]), Test(false)),
     (THREE, (&[(0, 5), (2, 2), (2, 2)], &[], &[]), Test(true)),
     (THREE, (&[(2, 3), (3, 3), (2, 2)], &[], &[]), Test(true)),
-    (THREE, (&[(0, 1), (5, 6), (0, 1)], &[], &[]), Test(false)),
-    (THREE, (&[(0, 1), (5, 6), (2, 1)], &[], &[]), Test(true)),
-    (
-        THREE,
-        (
-            &[
-                (-LARGEST, 1 - LARGEST),
-                (LARGEST, LARGEST),
-                (LARGEST, LARGEST),
-            ],
-            &[],
-            &[],
-        ),
-        Test(true),
-    ),
-    // the numbers of an interval are counted, also those that are not there
-    (
-        THREE,
-        (
-            &[(0, 2), (0, 2), (0, 2)],
-            &[(0, Op::Ne, 1), (1, Op::Ne, 1), (2, Op::Ne, 1)],
-            &[],
-        ),
-        Test(false),
-    ),
-    // two positions
-    (&[Number(3), Number(3)], LOW, Test(true)),
-    (&[Number(3), Number(4)], LOW, Test(false)),
-    (&[Z, Z], LOW, Test(true)),
-    (&[Y, Y], LOW, Test(false)),
-    (&[Z, Number(2)], LOW, Test(true)),
-    (&[X, Y], LOW, Test(false)),
-    // other numbers of positions
-    (&[], LOW, Test(false)),
-    (&[Z], LOW, Test(false)),
-    (&[Y, Y, Y], LOW, Test(true)),
-    (&[X, Y, Z, X], LOW, Test(true)),
-    // the ends of 64 bits
-    (&[LEAST, MOST, X], LOW, Test(false)),
-    (&[LEAST, MOST, LEAST], LOW, Test(true)),
-    (&[MOST, LEAST, MOST], LOW, Test(true)),
 ];
 
 /// y is 1 or 2, and z too.
@@ -132,33 +91,6 @@ const EXPLAINED: &[(&[Position], Place, Answer)] = &[
         ),
         Gives((0, Op::Le, 3), &[(1, Op::Ge, 4), (1, Op::Le, 4)]),
     ),
-    (
-        &[Y, X],
-        (
-            &[(0, 4), (0, 9), (0, 9)],
-            &[],
-            &[(1, Op::Ge, 0), (1, Op::Le, 0)],
-        ),
-        Gives((0, Op::Ge, 1), &[(1, Op::Le, 0)]),
-    ),
-    (&[Y, X], (&[(0, 4), (0, 9), (0, 9)], &[], &[]), Quiet),
-    // two numbers that are taken
-    (
-        THREE,
-        (&[(0, 4), (0, 4), (0, 4)], &[], MIDDLE),
-        Gives((0, Op::Ne, 1), MIDDLE),
-    ),
-    (
-        THREE,
-        (&[(0, 4), (0, 4), (0, 4)], &[], RAISED),
-        Gives((0, Op::Ge, 3), RAISED),
-    ),
-    // one variable twice in a wide domain
-    (
-        &[X, X, Y],
-        (&[WIDE, WIDE], &[], &[]),
-        Turn((0, Op::Ge, 1 - LARGEST)),
-    ),
 ];
 
 /// The terms, a place, and their turn there by a tight interval.
@@ -180,76 +112,6 @@ const TIGHT: &[(&[Position], Place, Answer)] = &[
         (&[(0, 9), (0, 0), (1, 1)], &[], &[]),
         Turn((0, Op::Ge, 2)),
     ),
-    (
-        THREE,
-        (&[(0, 9), (9, 9), (0, 0)], &[], &[]),
-        Turn((0, Op::Ge, 1)),
-    ),
-    (
-        THREE,
-        (&[(1, 1), (1, 2), (0, 9)], &[], &[]),
-        Turn((1, Op::Ge, 2)),
-    ),
-    (
-        THREE,
-        (&[(1, 5), (3, 4), (3, 4)], &[], &[]),
-        Turn((0, Op::Ne, 3)),
-    ),
-    (
-        THREE,
-        (&[(0, 9), (9, 9), (5, 5)], &[], &[]),
-        Turn((0, Op::Le, 8)),
-    ),
-    (
-        THREE,
-        (&[(0, 9), (7, 7), (5, 5)], &[], &[]),
-        Turn((0, Op::Ne, 5)),
-    ),
-    (
-        THREE,
-        (&[WIDE, (LARGEST, LARGEST), (0, 0)], &[], &[]),
-        Turn((0, Op::Le, LARGEST - 1)),
-    ),
-    (
-        THREE,
-        (&[WIDE, (0, 0), (5, 5)], &[], &[]),
-        Turn((0, Op::Ne, 0)),
-    ),
-    // values that are not there
-    (
-        THREE,
-        (
-            &[(0, 9), (0, 0), (5, 5)],
-            &[],
-            &[(0, Op::Ne, 1), (0, Op::Ne, 2)],
-        ),
-        Turn((0, Op::Ge, 3)),
-    ),
-    (
-        THREE,
-        (
-            &[(0, 9), (9, 9), (5, 5)],
-            &[],
-            &[(0, Op::Ne, 8), (0, Op::Ne, 7)],
-        ),
-        Turn((0, Op::Le, 6)),
-    ),
-    (
-        THREE,
-        (
-            &[(0, 9), (3, 4), (3, 4)],
-            &[],
-            &[(0, Op::Ne, 3), (0, Op::Ne, 5)],
-        ),
-        Turn((0, Op::Ne, 4)),
-    ),
-    // numbers
-    (&[X, Number(0), Number(9)], HIGH, Turn((0, Op::Ge, 1))),
-    (&[X, LEAST, MOST], HIGH, Quiet),
-    (&[X, Y, Number(3)], HIGH, Turn((0, Op::Ne, 3))),
-    (&[Y, Z, Number(3)], HIGH, Turn((1, Op::Ge, 4))),
-    (&[Z, Number(5), Number(6)], HIGH, Turn((2, Op::Le, 4))),
-    (&[X, X, Number(0)], HIGH, Turn((0, Op::Ge, 2))),
 ];
 
 fn all_different(alloc: Global, terms: &[Position]) -> Result<AllDiff, Memory> {

@@ -22,26 +22,6 @@ const TESTS: &[(&[Used], Place, Answer)] = &[
     (&[(1, Op::Ge, 10)], NEAR, Test(false)),
     (&[(1, Op::Ge, 6)], NEAR, Test(false)),
     (&[(1, Op::Ne, 4)], NEAR, Test(true)),
-    (&[(1, Op::Eq, 5)], NEAR, Test(false)),
-    // two on one variable; one of two; all but the last; repeats
-    (&[(1, Op::Ge, 5), (1, Op::Le, 9)], NEAR, Test(true)),
-    (&[(1, Op::Ge, 5), (1, Op::Le, 8)], NEAR, Test(false)),
-    (
-        &[(1, Op::Ge, 5), (2, Op::Ge, 1), (0, Op::Ge, 1)],
-        NEAR,
-        Test(false),
-    ),
-    (
-        &[(1, Op::Ge, 5), (1, Op::Ge, 5), (0, Op::Ge, 0)],
-        NEAR,
-        Test(true),
-    ),
-    // a dead state
-    (
-        &[(1, Op::Ge, 10)],
-        (&[(0, 1), (5, 9), (3, 2)], &[], &[]),
-        Test(true),
-    ),
 ];
 
 const WIDE: (i64, i64) = (-LARGEST, LARGEST);
@@ -62,50 +42,6 @@ const ONE: &[(&[Used], Place, Answer)] = &[
         FREE,
         Gives((0, Op::Ge, 1 - LARGEST), &[]),
     ),
-    (
-        &[(0, Op::Eq, LARGEST)],
-        FREE,
-        Gives((0, Op::Le, LARGEST - 1), &[]),
-    ),
-    (&[(0, Op::Eq, LARGEST + 1)], FREE, Quiet),
-    // two atoms: neither bound nor hole; from below; from above
-    (&[(0, Op::Ge, 2), (0, Op::Le, 4)], FREE, Quiet),
-    (
-        &[(0, Op::Ge, 2), (0, Op::Le, 4)],
-        (ALL, &[], &[(0, Op::Ge, 2)]),
-        Gives((0, Op::Ge, 5), &[(0, Op::Ge, 2)]),
-    ),
-    (
-        &[(0, Op::Ge, 2), (0, Op::Le, 4)],
-        (ALL, &[], &[(0, Op::Le, 4)]),
-        Gives((0, Op::Le, 1), &[(0, Op::Le, 4)]),
-    ),
-    // one value that meets two atoms: no `==`; a hole; no value
-    (&[(0, Op::Ge, 3), (0, Op::Le, 3)], FREE, Quiet),
-    (
-        &[(0, Op::Ge, 3), (0, Op::Eq, 3)],
-        FREE,
-        Gives((0, Op::Ne, 3), &[]),
-    ),
-    (&[(0, Op::Ge, 4), (0, Op::Eq, 3)], FREE, Quiet),
-    // a value at the edge: the least, the greatest
-    (
-        &[(0, Op::Eq, 3)],
-        (ALL, &[], &[(0, Op::Ge, 3)]),
-        Gives((0, Op::Ge, 4), &[(0, Op::Ge, 3)]),
-    ),
-    (
-        &[(0, Op::Eq, 3)],
-        (ALL, &[], &[(0, Op::Le, 3)]),
-        Gives((0, Op::Le, 2), &[(0, Op::Le, 3)]),
-    ),
-    // a value within; gone already
-    (
-        &[(0, Op::Eq, 3)],
-        (ALL, &[], &[(0, Op::Ge, 2), (0, Op::Le, 4)]),
-        Gives((0, Op::Ne, 3), &[]),
-    ),
-    (&[(0, Op::Eq, 3)], (ALL, &[], &[(0, Op::Ne, 3)]), Quiet),
 ];
 
 /// The same by atoms on more variables.
@@ -142,31 +78,6 @@ const MORE: &[(&[Used], Place, Answer)] = &[
             ],
         ),
         Gives((0, Op::Le, 4), &[(1, Op::Ge, 7)]),
-    ),
-    (
-        &[(0, Op::Ne, 3), (1, Op::Ge, 5), (0, Op::Ne, 8)],
-        (ALL, &[], &[(0, Op::Ne, 3), (0, Op::Ne, 5), (0, Op::Ne, 8)]),
-        Gives((1, Op::Le, 4), &[(0, Op::Ne, 3), (0, Op::Ne, 8)]),
-    ),
-    // two of three atoms on one variable
-    (
-        &[(0, Op::Ge, 5), (1, Op::Eq, 3), (0, Op::Le, 10)],
-        (ALL, &[], &[(0, Op::Ge, 5), (1, Op::Eq, 3)]),
-        Gives(
-            (0, Op::Ge, 11),
-            &[(0, Op::Ge, 5), (1, Op::Ge, 3), (1, Op::Le, 3)],
-        ),
-    ),
-    // a clash, also of no atom
-    (
-        &[(0, Op::Ge, 5), (1, Op::Le, 5)],
-        (ALL, &[], &[(0, Op::Ge, 6), (0, Op::Le, 8), (1, Op::Le, 2)]),
-        Clashes(&[(0, Op::Ge, 6), (1, Op::Le, 2)]),
-    ),
-    (
-        &[],
-        (ALL, &[], &[(0, Op::Ge, 6), (0, Op::Le, 8), (1, Op::Le, 2)]),
-        Clashes(&[]),
     ),
 ];
 

@@ -40,25 +40,6 @@ const TESTS: &[(Parts, Place, Answer)] = &[
     (ENTRY, (&[(1, 1), (5, 9), (5, 5)], &[], &[]), Test(true)),
     (ENTRY, (&[(0, 0), (4, 4), (4, 4)], &[], &[]), Test(true)),
     (ENTRY, (&[(4, 9), (6, 6), (6, 6)], &[], &[]), Test(true)),
-    (ENTRY, (&[(0, 1), (7, 7), (4, 4)], &[], &[]), Test(false)),
-    (ENTRY, (&[(3, 9), (7, 7), (6, 8)], &[], &[]), Test(false)),
-    (ENTRY, (&[(3, 2), (4, 4), (4, 4)], &[], &[]), Test(true)),
-    (ENTRY, (&[(1, 1), (7, 6), (4, 4)], &[], &[]), Test(true)),
-    // indices that are numbers
-    ((Number(i64::MIN), ARRAY, FOUR), AT, Test(true)),
-    ((Number(-1), ARRAY, FOUR), AT, Test(true)),
-    ((Number(0), ARRAY, FOUR), AT, Test(true)),
-    ((Number(1), ARRAY, FOUR), AT, Test(false)),
-    ((Number(2), ARRAY, FOUR), AT, Test(false)),
-    ((Number(3), ARRAY, FOUR), AT, Test(true)),
-    ((Number(4), ARRAY, FOUR), AT, Test(true)),
-    ((Number(i64::MAX), ARRAY, FOUR), AT, Test(true)),
-    // holes, and an array without entries
-    ((Number(1), &[V], Number(1)), JUMP, Test(true)),
-    ((Number(1), &[V], Number(2)), JUMP, Test(false)),
-    ((V, &[FIVE], FIVE), JUMP, Test(true)),
-    ((V, &[FIVE, FIVE], FIVE), JUMP, Test(false)),
-    ((V, &[], FIVE), JUMP, Test(true)),
 ];
 
 /// An index in its own array.
@@ -87,31 +68,6 @@ const EXPLAINED: &[(Parts, Place, Answer)] = &[
         AROUND,
         (NINE, &[], &[(1, Op::Ge, 7), (2, Op::Ge, 2), (2, Op::Le, 5)]),
         Gives((0, Op::Ge, 2), &[(1, Op::Ge, 7), (2, Op::Le, 5)]),
-    ),
-    (
-        AROUND,
-        (NINE, &[], &[(1, Op::Ge, 7), (2, Op::Le, 5), (0, Op::Ge, 2)]),
-        Gives((0, Op::Le, 2), &[(1, Op::Ge, 7), (2, Op::Le, 5)]),
-    ),
-    (
-        AROUND,
-        (NINE, &[], &[(0, Op::Ge, 2), (0, Op::Le, 2)]),
-        Gives((2, Op::Ge, 4), &[(0, Op::Ge, 2), (0, Op::Le, 2)]),
-    ),
-    // a hole of the index
-    (
-        HOLE,
-        (&[(1, 3), (0, 9), (0, 9)], &[], &[(1, Op::Ne, 4)]),
-        Gives((0, Op::Ne, 2), &[(1, Op::Ne, 4)]),
-    ),
-    (
-        HOLE,
-        (
-            &[(1, 3), (0, 9), (0, 9)],
-            &[],
-            &[(1, Op::Ne, 4), (0, Op::Ne, 2)],
-        ),
-        Gives((2, Op::Ge, 4), &[(1, Op::Ne, 4)]),
     ),
 ];
 
@@ -148,112 +104,6 @@ const TURNS: &[(Parts, Place, Answer)] = &[
         LAST,
         (&[(1, 3), (0, 2), (4, 5), (0, 9)], &[], &[]),
         Turn((3, Op::Le, 7)),
-    ),
-    (
-        LAST,
-        (&[(1, 3), (1, 2), (4, 5), (0, 7)], &[], &[]),
-        Turn((3, Op::Ge, 1)),
-    ),
-    (
-        LAST,
-        (&[(2, 2), (0, 9), (4, 9), (0, 5)], &[], &[]),
-        Turn((2, Op::Le, 5)),
-    ),
-    (
-        LAST,
-        (&[(2, 2), (0, 9), (0, 9), (4, 5)], &[], &[]),
-        Turn((2, Op::Ge, 4)),
-    ),
-    (
-        LAST,
-        (&[(2, 2), (0, 9), (4, 5), (0, 9)], &[], &[]),
-        Turn((3, Op::Ge, 4)),
-    ),
-    (
-        LAST,
-        (&[(3, 3), (0, 9), (4, 5), (0, 9)], &[], &[]),
-        Turn((3, Op::Ge, 7)),
-    ),
-    // values that are not there: of the index, of the entry, of the value
-    (
-        LAST,
-        (
-            &[(1, 3), (0, 2), (4, 5), (0, 7)],
-            &[],
-            &[(3, Op::Ne, 4), (3, Op::Ne, 5)],
-        ),
-        Turn((0, Op::Ne, 2)),
-    ),
-    (
-        LAST,
-        (
-            &[(2, 2), (0, 9), (0, 9), (0, 9)],
-            &[],
-            &[(3, Op::Ne, 0), (3, Op::Ne, 1)],
-        ),
-        Turn((2, Op::Ge, 2)),
-    ),
-    (
-        LAST,
-        (
-            &[(2, 2), (0, 9), (0, 9), (0, 9)],
-            &[],
-            &[(2, Op::Ne, 9), (2, Op::Ne, 5)],
-        ),
-        Turn((3, Op::Le, 8)),
-    ),
-    // a gap of the value; a hole of the value; no entry
-    (LAST, (&[(1, 3), (0, 2), (4, 5), (0, 7)], &[], &[]), Quiet),
-    (
-        LAST,
-        (&[(2, 2), (0, 9), (0, 9), (0, 9)], &[], &[(3, Op::Ne, 5)]),
-        Quiet,
-    ),
-    (LAST, (&[(1, 3), (0, 2), (8, 9), (3, 6)], &[], &[]), Clash),
-    // one entry at two numbers: the other does not fit; twice; the other fits too
-    (
-        (X, &[V, Number(9)], W),
-        (&[(0, 9), (0, 5), (1, 2)], &[], &[]),
-        Turn((0, Op::Le, 5)),
-    ),
-    (
-        (X, &[V, V], W),
-        (&[(0, 9), (0, 5), (1, 2)], &[], &[]),
-        Turn((0, Op::Le, 5)),
-    ),
-    (
-        (X, &[V, FIVE], W),
-        (&[(0, 9), (0, 5), (1, 2)], &[], &[]),
-        Quiet,
-    ),
-    // the index as the value; the value as an entry
-    (
-        (V, &[Number(2), Number(2), Number(9)], V),
-        (&[(1, 3), (0, 3), (5, 9)], &[], &[]),
-        Turn((0, Op::Ge, 2)),
-    ),
-    (
-        (V, &[W, X], W),
-        (&[(1, 3), (0, 3), (5, 9)], &[], &[]),
-        Turn((0, Op::Le, 1)),
-    ),
-    // numbers beyond all domains
-    (
-        (V, BEYOND, W),
-        (&[(1, 3), (0, 9)], &[], &[]),
-        Turn((0, Op::Ge, 2)),
-    ),
-    (
-        (Number(2), BEYOND, W),
-        (&[(1, 3), (0, 9)], &[], &[]),
-        Turn((1, Op::Ge, 5)),
-    ),
-    ((Number(1), BEYOND, W), (&[(1, 3), (0, 9)], &[], &[]), Clash),
-    // wide domains beside an index in the array
-    (
-        (W, &[W, FOUR, V], V),
-        (&[(-LARGEST, LARGEST), (1, 3)], &[], &[]),
-        Quiet,
     ),
 ];
 
