@@ -3,8 +3,6 @@
 #![tactic(auto)]
 
 #[cfg(test)]
-mod chain_tests;
-#[cfg(test)]
 mod justify_tests;
 #[cfg(test)]
 mod models;
