@@ -21,7 +21,8 @@ use Rattle.dp_solver.specs.declared.outcome.Outcome.{Outcome}
 use Rattle.dp_solver.specs.declared.outcome.Outcome.TheVariants.{Solution, Unsat, Optimal, Unknown as UnknownOutcome}
 use Rattle.dp_writer.specs.Steps.{text_of as log_text}
 use Rattle.fz_model.specs.Models.{Plan}
-use Rattle.fz_prove.specs.Proofs.{IsEnd, IsEnding, IsProven, Proves, log_end, told_alone}
+use Rattle.fz_prove.specs.Limits.{IsPastLimit}
+use Rattle.fz_prove.specs.Proofs.{IsAgreed, IsEnd, IsEnding, IsProven, IsWithin, Proves, log_end, told_alone}
 use Rattle.fz_prove.specs.declared.proof.Proof.{Proof}
 use Rattle.fz_prove.specs.declared.proof.Proof.TheVariants.{Solved, Unknown, Accepted, ScaffoldUnread, ScaffoldRefused, NotFollowing, LogUnread, LogRefused}
 use Rattle.fz_solve.specs.Printed.{outcome_status, outcome_text}
@@ -32,7 +33,7 @@ use Rattle.dp_command.proofs.Rights.{log_goal, log_right}
 use Rattle.dp_command.specs.Due.{Said}
 use Rattle.dp_command.specs.Found.{IsFound, IsProblemOf}
 use Rattle.dp_command.specs.Named.{claim_of}
-use Rattle.dp_command.specs.Proven.{IsTold, PassesLimit, SaysProof}
+use Rattle.dp_command.specs.Proven.{IsChecked, IsTold, PassesLimit, SaysProof}
 use Rattle.dp_command.specs.Proving.{IsAimed, IsProving, IsTrueProving, proving_of}
 use Rattle.dp_command.specs.Replies.{IsGiven, Replies, RepliesTo}
 use Rattle.dp_command.specs.Texts.{accepted_line, proving_status, proving_text, status_of, text_of}
@@ -64,27 +65,6 @@ checked_by p text told v (gathered.Given s) h =
     record { learned = s; says = refl; follows = h.0; accepted = k.0; spelled = k.1 }
 checked_by p text told v (gathered.Unread refusal) h = absurd cc
 checked_by p text told v (gathered.Refused refusal line) h = absurd cc
-
--- what is told alone is not checked
-abbrev IsAlone : Proof → Type 0
-IsAlone (Solved text) = Unit {0}
-IsAlone (Unknown text) = Unit {0}
-IsAlone end = ⊥
-
-by_end : (text : List ℕ) (a : LogAnswer) → IsAlone (log_end text a) → ⊥
-by_end text (judged.Accepted w) h = h
-by_end text (judged.Unread refusal) h = h
-by_end text (judged.Refused refusal line) h = h
-
-not_solved : (p : Csp) (text told : List ℕ) (a : ScaffoldAnswer) → IsEnd p text a (Solved told) → ⊥
-not_solved p text told (gathered.Given s) h = by_end text (judged_log (posed p) (log_text (log_of p s))) (subst (λ (e : Proof). IsAlone e) h.1 tt)
-not_solved p text told (gathered.Unread refusal) h = cc
-not_solved p text told (gathered.Refused refusal line) h = cc
-
-not_unknown : (p : Csp) (text told : List ℕ) (a : ScaffoldAnswer) → IsEnd p text a (Unknown told) → ⊥
-not_unknown p text told (gathered.Given s) h = by_end text (judged_log (posed p) (log_text (log_of p s))) (subst (λ (e : Proof). IsAlone e) h.1 tt)
-not_unknown p text told (gathered.Unread refusal) h = cc
-not_unknown p text told (gathered.Refused refusal line) h = cc
 
 not_accepted : (m : Plan) (o : Outcome) (told : List ℕ) (v : Verdict) → Accepted told v ≡ told_alone m o → ⊥
 not_accepted m (Solution numbers) told v e = cc
@@ -164,38 +144,49 @@ one : (n : ℕ) → n ≡ 1 → (n ≡ 0) ⊎ (n ≡ 4) → ⊥
 one n e (inl f) = omega (arith, e, f)
 one n e (inr f) = omega (arith, e, f)
 
-told_by : (m : Plan) (p : Csp) (o : Outcome) (nogoods : List (List Atomic)) (claim : Option Verdict) (end : Proof) → IsEnding m p o nogoods claim end → IsTrueProving m (proving_of p end) →
-    (proving_status (proving_of p end) ≡ 0) ⊎ (proving_status (proving_of p end) ≡ 4) → IsTold m p o nogoods claim (proving_text (proving_of p end)) (proving_status (proving_of p end))
-told_by m p o nogoods None end h holds good =
-    subst (λ (e : Proof). IsTold m p o nogoods None (proving_text (proving_of p e)) (proving_status (proving_of p e))) (sym h) (alone m p o)
-told_by m p o nogoods (Some claim) (Solved text) h holds good =
-    absurd (not_solved p (outcome_text m o) text (scaffold_text (posed p) (scaffold_of p nogoods (Some claim))) h)
-told_by m p o nogoods (Some claim) (Unknown text) h holds good =
-    absurd (not_unknown p (outcome_text m o) text (scaffold_text (posed p) (scaffold_of p nogoods (Some claim))) h)
-told_by m p o nogoods (Some claim) (Accepted text v) h holds good =
-    let k = checked_by p (outcome_text m o) text v (scaffold_text (posed p) (scaffold_of p nogoods (Some claim))) h in
+-- a limit that is told has status 1
+past_one : (p : Csp) (end : Proof) → IsPastLimit end → proving_status (proving_of p end) ≡ 1
+past_one p (Solved text) h = absurd h
+past_one p (Unknown text) h = absurd h
+past_one p (Accepted text v) h = absurd h
+past_one p (ScaffoldUnread refusal) h = refl
+past_one p (ScaffoldRefused refusal line) h = refl
+past_one p (NotFollowing place line id) h = absurd h
+past_one p (LogUnread refusal) h = refl
+past_one p (LogRefused refusal line) h = absurd h
+
+-- a claim that is accepted is told as one that is checked
+checked_told : (m : Plan) (p : Csp) (o : Outcome) (nogoods : List (List Atomic)) (claim : Verdict) (end : Proof) → IsEnding m p o nogoods (Some claim) end → IsTrueProving m (proving_of p end) →
+    end ≡ Accepted (outcome_text m o) claim → IsWithin p nogoods claim → IsChecked m p o nogoods claim (proving_text (proving_of p end)) (proving_status (proving_of p end))
+checked_told m p o nogoods claim end h holds e within =
+    let text = outcome_text m o in
+    let answer = scaffold_text (posed p) (scaffold_of p nogoods (Some claim)) in
+    let k = checked_by p text text claim answer (subst (λ (q : Proof). IsEnd p text answer q) e h) in
     record {
+      within = within;
       learned = k.learned;
       says = k.says;
       follows = k.follows;
-      verdict = v;
       accepted = k.accepted;
-      holds = holds;
-      spelled = ap (λ (t : List ℕ). t ++ accepted_line (claim_of p v)) k.spelled;
-      stands = refl;
+      holds = subst (λ (q : Proof). IsTrueProving m (proving_of p q)) e holds;
+      spelled = ap (λ (q : Proof). proving_text (proving_of p q)) e;
+      stands = ap (λ (q : Proof). proving_status (proving_of p q)) e;
     }
-told_by m p o nogoods (Some claim) (ScaffoldUnread refusal) h holds good = absurd (one 1 refl good)
-told_by m p o nogoods (Some claim) (ScaffoldRefused refusal line) h holds good = absurd (one 1 refl good)
-told_by m p o nogoods (Some claim) (NotFollowing place line id) h holds good = absurd (one 1 refl good)
-told_by m p o nogoods (Some claim) (LogUnread refusal) h holds good = absurd (one 1 refl good)
-told_by m p o nogoods (Some claim) (LogRefused refusal line) h holds good = absurd (one 1 refl good)
+
+told_by : (m : Plan) (p : Csp) (o : Outcome) (nogoods : List (List Atomic)) (claim : Option Verdict) (end : Proof) → IsEnding m p o nogoods claim end → IsAgreed m p o nogoods claim end →
+    IsTrueProving m (proving_of p end) → (proving_status (proving_of p end) ≡ 0) ⊎ (proving_status (proving_of p end) ≡ 4) →
+    IsTold m p o nogoods claim (proving_text (proving_of p end)) (proving_status (proving_of p end))
+told_by m p o nogoods None end h agreed holds good =
+    subst (λ (e : Proof). IsTold m p o nogoods None (proving_text (proving_of p e)) (proving_status (proving_of p e))) (sym h) (alone m p o)
+told_by m p o nogoods (Some claim) end h (inl a) holds good = checked_told m p o nogoods claim end h holds a.0 a.1
+told_by m p o nogoods (Some claim) end h (inr past) holds good = absurd (one (proving_status (proving_of p end)) (past_one p end past) good)
 
 -- an outcome is told with its status
 told_of : (m : Plan) (p : Csp) (most : ℕ) (told : Proving) (h : IsProving m p most told) → (proving_status told ≡ 0) ⊎ (proving_status told ≡ 4) →
     IsTold m p h.proves.outcome h.proves.found.nogoods h.proves.found.claim (proving_text told) (proving_status told)
 told_of m p most told h good =
     subst (λ (t : Proving). IsTold m p h.proves.outcome h.proves.found.nogoods h.proves.found.claim (proving_text t) (proving_status t)) (sym h.told)
-    (told_by m p h.proves.outcome h.proves.found.nogoods h.proves.found.claim h.end h.proves.ending (subst (λ (t : Proving). IsTrueProving m t) h.told h.holds)
+    (told_by m p h.proves.outcome h.proves.found.nogoods h.proves.found.claim h.end h.proves.ending h.proves.agreed (subst (λ (t : Proving). IsTrueProving m t) h.told h.holds)
     (subst (λ (t : Proving). (proving_status t ≡ 0) ⊎ (proving_status t ≡ 4)) h.told good))
 
 -- ---- the reply
@@ -262,11 +253,13 @@ accepted_zero p text v end h e = zero_one 0 refl (subst (λ (q : Proof). proving
     zero_one : (n : ℕ) → n ≡ 0 → n ≡ 1 → ⊥
     zero_one n e f = omega (arith, e, f)
 
-limit_by : (names : Option Files) (words : List (List ℕ)) (model : List ℕ) (workers most : ℕ) (m : Plan) (o : Outcome) (found : Finds (problem_of m) most o) (claim : Option Verdict) (end : Proof) →
-    Spells (Prove model workers most) words → IsGiven names model m → found.claim ≡ claim → IsEnding m (problem_of m) o found.nogoods claim end → IsProven m (problem_of m) o found.nogoods claim end →
-    proving_status (proving_of (problem_of m) end) ≡ 1 → PassesLimit names words
-limit_by names words model workers most m o found None end asked given is ending proven e = absurd (not_one m (problem_of m) o end ending e)
-limit_by names words model workers most m o found (Some claim) end asked given is ending proven e = record {
+limit_by : (names : Option Files) (words : List (List ℕ)) (model : List ℕ) (workers most : ℕ) (m : Plan) (o : Outcome) (found : Finds (problem_of m) most o) (claim : Option Verdict) (end : Proof)
+    (was now : Channel) → Spells (Prove model workers most) words → IsGiven names model m → found.claim ≡ claim → IsEnding m (problem_of m) o found.nogoods claim end →
+    IsProven m (problem_of m) o found.nogoods claim end → IsAgreed m (problem_of m) o found.nogoods claim end → proving_status (proving_of (problem_of m) end) ≡ 1 →
+    Grows was now (proving_text (proving_of (problem_of m) end)) → PassesLimit names words was now
+limit_by names words model workers most m o found None end was now asked given is ending proven agreed e text = absurd (not_one m (problem_of m) o end ending e)
+limit_by names words model workers most m o found (Some claim) end was now asked given is ending proven (inl a) e text = absurd (accepted_zero (problem_of m) (outcome_text m o) claim end e a.0)
+limit_by names words model workers most m o found (Some claim) end was now asked given is ending proven (inr past) e text = record {
   model = model;
   workers = workers;
   most = most;
@@ -277,26 +270,30 @@ limit_by names words model workers most m o found (Some claim) end asked given i
   found = found;
   claim = claim;
   claims = is;
-  passes = λ limits short. accepted_zero (problem_of m) (outcome_text m o) claim end e (proven limits short);
+  passes = λ within. accepted_zero (problem_of m) (outcome_text m o) claim end e (proven within.scaffold within.log);
+  end = end;
+  limit = past;
+  written = text;
 }
 
-passes_limit : (names : Option Files) (words : List (List ℕ)) (reply : Reply) → Replies names words reply → IsProve words → status_of reply ≡ 1 → PassesLimit names words
-passes_limit names words NoCommand due prove e = absurd cc
-passes_limit names words (ModelRefused refusal) due prove e = absurd cc
-passes_limit names words (AcceptedReply claim) due prove e = absurd cc
-passes_limit names words (Unread refusal) due prove e = absurd (check_proves_not words (due.model, due.log, due.asked) prove)
-passes_limit names words (Refused refusal told) due prove e = absurd (check_proves_not words (due.model, due.log, due.asked) prove)
-passes_limit names words (ShownLog shown) due prove e = absurd (show_proves_not words (due.log, due.asked) prove)
-passes_limit names words (Processed o) due prove e = absurd (process_proves_not words (due.model, due.scaffold, due.out, due.workers, due.asked) prove)
-passes_limit names words (Generated family) due prove e = absurd cc
-passes_limit names words (Proved told) due prove e =
+passes_limit : (names : Option Files) (words : List (List ℕ)) (reply : Reply) (was now : Channel) → Replies names words reply → IsProve words → status_of reply ≡ 1 → Grows was now (text_of reply) →
+    PassesLimit names words was now
+passes_limit names words NoCommand was now due prove e text = absurd cc
+passes_limit names words (ModelRefused refusal) was now due prove e text = absurd cc
+passes_limit names words (AcceptedReply claim) was now due prove e text = absurd cc
+passes_limit names words (Unread refusal) was now due prove e text = absurd (check_proves_not words (due.model, due.log, due.asked) prove)
+passes_limit names words (Refused refusal told) was now due prove e text = absurd (check_proves_not words (due.model, due.log, due.asked) prove)
+passes_limit names words (ShownLog shown) was now due prove e text = absurd (show_proves_not words (due.log, due.asked) prove)
+passes_limit names words (Processed o) was now due prove e text = absurd (process_proves_not words (due.model, due.scaffold, due.out, due.workers, due.asked) prove)
+passes_limit names words (Generated family) was now due prove e text = absurd cc
+passes_limit names words (Proved told) was now due prove e text =
     let h = due.proves.proves in
-    limit_by names words due.model due.workers due.most due.m h.outcome h.found h.found.claim due.proves.end due.asked due.given refl h.ending h.proven
-    (subst (λ (t : Proving). proving_status t ≡ 1) due.proves.told e)
+    limit_by names words due.model due.workers due.most due.m h.outcome h.found h.found.claim due.proves.end was now due.asked due.given refl h.ending h.proven h.agreed
+    (subst (λ (t : Proving). proving_status t ≡ 1) due.proves.told e) (subst (λ (t : Proving). Grows was now (proving_text t)) due.proves.told text)
 
--- a proof is refused only where a limit is passed
-pub limit_said : (names : Option Files) (words : List (List ℕ)) (r : ℕ) (was now : Sight) → Said names words r was now → IsProve words → r ≡ 1 → PassesLimit names words
-limit_said names words r was now said prove e = passes_limit names words said.reply said.due prove (sym said.stands ∙ e)
+-- a proof is refused only where a limit is passed, and that is told
+pub limit_said : (names : Option Files) (words : List (List ℕ)) (r : ℕ) (was now : Sight) → Said names words r was now → IsProve words → r ≡ 1 → PassesLimit names words was.answer now.answer
+limit_said names words r was now said prove e = passes_limit names words said.reply was.answer now.answer said.due prove (sym said.stands ∙ e) said.written.told
 
 pub one_small : (r : ℕ) → r ≡ 1 → r ≤ 4
 one_small r e = omega (arith, e)

@@ -26,14 +26,14 @@ pub record Answers (names : Option Files) (words : List (List ℕ)) (status : �
 -- ---- what is true of it
 
 -- What a check and a proof write is true of the model, in the meaning of its constraints; what stands in the file of a processed
--- scaffold is its processed log, and in the files of a family its model and its scaffold; and a proof is refused only where its
--- scaffold or its log passes a limit. That the outcome of a solve is true of the model is a field of `SolvesModel`, above.
+-- scaffold is its processed log, and in the files of a family its model and its scaffold; and a proof is refused exactly where its
+-- scaffold or its log passes a limit, which is then told. That the outcome of a solve is true of the model is a field of `SolvesModel`, above.
 pub record AreTrue (names : Option Files) (words : List (List ℕ)) (status : ℕ) (was now : Sight) : Type 0 where
   pub check : IsCheck words → status ≡ 0 → SaysTruth names words was.answer now.answer
   pub process : IsProcess words → status ≡ 0 → FilesProof names words now.first
   pub prove : IsProve words → (status ≡ 0) ⊎ (status ≡ 4) → SaysProof names words status was.answer now.answer
   pub gen : IsGen words → status ≡ 0 → FilesFamily words was now
-  pub limits : IsProve words → status ≡ 1 → PassesLimit names words
+  pub limits : IsProve words → status ≡ 1 → PassesLimit names words was.answer now.answer
 
 -- ---- what is touched
 

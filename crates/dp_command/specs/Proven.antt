@@ -10,38 +10,41 @@ use Rattle.dp_lower.specs.Problem.{problem_of}
 use Rattle.dp_parts.specs.Problems.{Csp, posed}
 use Rattle.dp_process.specs.Met.{EachMetFollows}
 use Rattle.dp_process.specs.Processed.{log_of}
-use Rattle.dp_replay.specs.Accepting.{AreShort}
-use Rattle.fz_prove.specs.Rereading.{IsInLimits}
+use Rattle.fz_prove.specs.Limits.{IsPastLimit}
+use Rattle.fz_prove.specs.Proofs.{IsWithin}
+use Rattle.fz_prove.specs.declared.proof.Proof.{Proof}
 use Rattle.dp_scaffold.specs.Scaffolds.{Learned}
 use Rattle.dp_scaffold.specs.Texts.{scaffold_text}
 use Rattle.dp_scaffold.specs.declared.answer.ScaffoldAnswer.TheVariants.{Given}
 use Rattle.dp_solver.specs.declared.outcome.Outcome.{Outcome}
-use Rattle.dp_writer.specs.Steps.{lines, text_of}
+use Rattle.dp_writer.specs.Steps.{text_of}
 use Rattle.fz_model.specs.Models.{Plan}
 use Rattle.fz_solve.specs.Printed.{outcome_status, outcome_text}
 use Rattle.fz_solve.specs.Solved.{Finds, IsTruth}
 use Rattle.dp_command.specs.Named.{claim_of}
 use Rattle.dp_command.specs.Replies.{IsGiven}
-use Rattle.dp_command.specs.Texts.{accepted_line}
+use Rattle.dp_command.specs.Proving.{proving_of}
+use Rattle.dp_command.specs.Texts.{accepted_line, proving_text}
 use Rattle.dp_command.specs.Truths.{IsTrueOf}
 use Rattle.dp_command.specs.Words.{Prove, Spells}
 
--- Each nogood that the scaffold's claim rests on follows; the log that is made of it is accepted by a check, and what that
--- concludes is true of the model. The text is the outcome's, and then the line of the check; the status is 0.
-pub record IsChecked (m : Plan) (p : Csp) (outcome : Outcome) (scaffold text : List ℕ) (status : ℕ) : Type 0 where
+-- Neither the scaffold nor its log passes a limit. Each nogood that the scaffold's claim rests on follows; the log that is made of it
+-- is accepted by a check with the claim, and that is true of the model. The text is the outcome's, and then the line of the check; the
+-- status is 0.
+pub record IsChecked (m : Plan) (p : Csp) (outcome : Outcome) (nogoods : List (List Atomic)) (claim : Verdict) (text : List ℕ) (status : ℕ) : Type 0 where
+  pub within : IsWithin p nogoods claim
   pub learned : Learned
-  pub says : scaffold_text (posed p) scaffold ≡ Given learned
+  pub says : scaffold_text (posed p) (scaffold_of p nogoods (Some claim)) ≡ Given learned
   pub follows : EachMetFollows (posed p) learned.nogoods
-  pub verdict : Verdict
-  pub accepted : judged_log (posed p) (text_of (log_of p learned)) ≡ Accepted verdict
-  pub holds : IsTrueOf m (claim_of p verdict)
-  pub spelled : text ≡ outcome_text m outcome ++ accepted_line (claim_of p verdict)
+  pub accepted : judged_log (posed p) (text_of (log_of p learned)) ≡ Accepted claim
+  pub holds : IsTrueOf m (claim_of p claim)
+  pub spelled : text ≡ outcome_text m outcome ++ accepted_line (claim_of p claim)
   pub stands : status ≡ 0
 
 -- an outcome is told with its status where nothing is claimed, else with its claim, which is checked
 abbrev pub IsTold : Plan → Csp → Outcome → List (List Atomic) → Option Verdict → List ℕ → ℕ → Type 0
 IsTold m p outcome nogoods None text status = (text ≡ outcome_text m outcome) × (status ≡ outcome_status outcome)
-IsTold m p outcome nogoods (Some claim) text status = IsChecked m p outcome (scaffold_of p nogoods (Some claim)) text status
+IsTold m p outcome nogoods (Some claim) text status = IsChecked m p outcome nogoods claim text status
 
 -- The words ask to prove a model, which is read. A search of its problem found an outcome. What it says is true of the model, and
 -- it was told.
@@ -59,9 +62,9 @@ pub record SaysProof (names : Option Files) (words : List (List ℕ)) (status : 
   pub told : IsTold m (problem_of m) outcome found.nogoods found.claim text status
   pub written : Grows was now text
 
--- the words ask to prove a model, which is read, and the scaffold of an outcome that claims something, or the log that is made
--- of it, passes a limit
-pub record PassesLimit (names : Option Files) (words : List (List ℕ)) : Type 0 where
+-- The words ask to prove a model, which is read. The scaffold of an outcome that claims something, or the log that is made of it,
+-- passes a limit; that is what was told: a line is too long, or they are in all, or there are too many nogoods or literals.
+pub record PassesLimit (names : Option Files) (words : List (List ℕ)) (was now : Channel) : Type 0 where
   pub model : List ℕ
   pub workers : ℕ
   pub most : ℕ
@@ -72,7 +75,7 @@ pub record PassesLimit (names : Option Files) (words : List (List ℕ)) : Type 0
   pub found : Finds (problem_of m) most outcome
   pub claim : Verdict
   pub claims : found.claim ≡ Some claim
-  pub passes :
-      IsInLimits (problem_of m) found.nogoods claim
-      → ((s : Learned) → scaffold_text (posed (problem_of m)) (scaffold_of (problem_of m) found.nogoods (Some claim)) ≡ Given s
-      → AreShort (lines (log_of (problem_of m) s)) (text_of (log_of (problem_of m) s))) → ⊥
+  pub passes : IsWithin (problem_of m) found.nogoods claim → ⊥
+  pub end : Proof
+  pub limit : IsPastLimit end
+  pub written : Grows was now (proving_text (proving_of (problem_of m) end))
