@@ -18,10 +18,12 @@ mod show;
 mod solve;
 mod task;
 mod trouble;
+mod unfailing;
 mod words;
 
 pub use program::run;
 pub(crate) use trouble::Trouble;
+pub use unfailing::run_unfailing;
 pub use words::{Command, read_words};
 
 // The status where an input could not be opened or read.
