@@ -15,7 +15,7 @@ use Rattle.dp_checker.specs.Judged.{is_at_least, is_at_most, is_bound}
 use Rattle.dp_checker.specs.Kept.{IsRight}
 use Rattle.dp_judge.specs.Logs.{IsOfGoal}
 use Rattle.dp_lower.specs.Problem.{goal_in, problem_of, variable_in}
-use Rattle.dp_parts.specs.Problems.{Csp, IsSolution}
+use Rattle.dp_parts.specs.Problems.{Csp, IsProblem, IsSolution}
 use Rattle.fz_facts.specs.Facts.{IsGoal, IsVariable}
 use Rattle.fz_facts.proofs.WellFormed.{well_formed}
 use Rattle.fz_model.specs.Models.{IsModel, Plan, count_variables}
@@ -81,9 +81,10 @@ true_claim m h same (Bound a) right goal = record {
 }
 
 -- so it is of the problem that the lowering gives
-pub problem_is : (m : Plan) (p : Csp) → IsModel m → p ≡ problem_of m → ((s : ℕ → ℤ) → Satisfies m s ↔ IsSolution s p) → IsProblemOf m p
-problem_is m p model posed same = record {
+pub problem_is : (m : Plan) (p : Csp) → IsModel m → IsProblem p → p ≡ problem_of m → ((s : ℕ → ℤ) → Satisfies m s ↔ IsSolution s p) → IsProblemOf m p
+problem_is m p model sound posed same = record {
   posed = posed;
+  sound = sound;
   same = same;
   true_of =
       subst (λ (q : Csp). ((s : ℕ → ℤ) → Satisfies m s ↔ IsSolution s q) → (v : Verdict) → IsRight q v → IsOfGoal q v → IsTrueOf m (claim_of q v)) (sym posed)

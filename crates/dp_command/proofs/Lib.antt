@@ -5,6 +5,7 @@ pub mod Checks
 pub mod Shows
 pub mod Processes
 pub mod Rights
+pub mod Decides
 pub mod Proves
 pub mod Families
 pub mod Files

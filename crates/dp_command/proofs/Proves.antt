@@ -28,6 +28,7 @@ use Rattle.fz_prove.specs.declared.proof.Proof.TheVariants.{Solved, Unknown, Acc
 use Rattle.fz_solve.specs.Printed.{outcome_status, outcome_text}
 use Rattle.fz_solve.specs.Solved.{Finds}
 use Rattle.dp_command.proofs.Checks.{given_of}
+use Rattle.dp_command.proofs.Decides.{decided_by}
 use Rattle.dp_command.proofs.Requests.{check_proves_not, gen_proves_not, process_proves_not, show_proves_not}
 use Rattle.dp_command.proofs.Rights.{log_goal, log_right}
 use Rattle.dp_command.specs.Due.{Said}
@@ -111,7 +112,13 @@ true_by m p outcome nogoods claim (LogRefused refusal line) problem is h = tt
 -- a model that is proved ends so, and what is accepted is true of it
 pub proving_is : (m : Plan) (p : Csp) (most : ℕ) (end : Proof) (told : Proving) → IsProblem p → IsProblemOf m p → Proves m p most end → told ≡ proving_of p end → IsProving m p most told
 proving_is m p most end told problem is h e =
-    record { end = end; proves = h; told = e; holds = subst (λ (t : Proving). IsTrueProving m t) (sym e) (true_by m p h.outcome h.found.nogoods h.found.claim end problem is h.ending) }
+    record {
+      end = end;
+      proves = h;
+      told = e;
+      holds = subst (λ (t : Proving). IsTrueProving m t) (sym e) (true_by m p h.outcome h.found.nogoods h.found.claim end problem is h.ending);
+      decided = decided_by p most h.outcome problem h.found;
+    }
 
 -- the reply for a model that is proved belongs to the words
 pub proving_at : (names : Option Files) (model : List ℕ) (workers most : ℕ) (m : Plan) (p : Csp) (told : Proving) (what : Found) → what ≡ Problem m p → IsFound names model what → IsProving m p most told →
@@ -219,6 +226,7 @@ says_by names words (Proved told) was now due prove good text = record {
   outcome = due.proves.proves.outcome;
   found = due.proves.proves.found;
   truth = due.proves.proves.truth;
+  decided = due.proves.decided;
   text = proving_text told;
   told = told_of due.m (problem_of due.m) due.most told due.proves good;
   written = text;

@@ -4,12 +4,14 @@ use Rattle.std.proofs.Common.{sym, ◌∙◌, ap, subst, inl, inr, arith}
 use Rattle.dp_desk.specs.Channel.{Channel, Files, Grows, GrowsByPart, IsAtEnd}
 use Rattle.dp_desk.specs.Sight.{Sight, with_output}
 use Rattle.dp_desk.specs.declared.desk.Out.TheVariants as Out
-use Rattle.dp_parts.specs.Problems.{Csp}
+use Rattle.dp_lower.specs.Problem.{problem_of}
+use Rattle.dp_parts.specs.Problems.{Csp, IsProblem}
 use Rattle.dp_solver.specs.declared.outcome.Outcome.{Outcome}
 use Rattle.dp_solver.specs.declared.outcome.Outcome.TheVariants.{Solution, Unsat, Optimal, Unknown}
 use Rattle.fz_model.specs.Models.{Plan}
 use Rattle.fz_solve.specs.Printed.{outcome_status, outcome_text}
 use Rattle.fz_solve.specs.Solved.{FilesFront, Solved, SolvedPart, SolvesFront}
+use Rattle.dp_command.proofs.Decides.{decided_by}
 use Rattle.dp_command.proofs.Requests.{gen_solves_not, show_solves_not}
 use Rattle.dp_command.specs.Due.{AreAtEnd, ChangesInputs, ReadsToEnd}
 use Rattle.dp_command.specs.Solving.{IsSolved, SolvesModel, SolvesModelPart}
@@ -109,20 +111,23 @@ moved_front m p most was middle now answer first (inr h) = inr (moved_part m p m
 solves : (names : Option Files) (words : List (List ℕ)) (search : Search) (was middle now : Sight) (r : ℕ) →
     ChangesInputs was middle → now ≡ with_output Out.Answer now.answer (with_output Out.First now.first middle) → Searches names words search → ReadsToEnd words middle →
     Solved search.model search.problem search.conflicts r middle now → SolvesModel names words r was now
-solves names words search was middle now r same rest s ended h = record {
-  model = s.name;
-  out = string_bytes search.out;
-  most = search.conflicts;
-  asked = s.asked;
-  m = search.model;
-  given = s.given;
-  ended =
-      subst IsAtEnd (sym (ap (λ (t : Sight). t.model) rest))
-      (model_ended ended.request words middle ended.asked ended.ended (searched_words names words search s));
-  solved =
-      subst (λ (p : Csp). Solved search.model p search.conflicts r was now) s.problem.posed
-      (moved_solved search.model search.problem search.conflicts r was middle now (ap (λ (t : Sight). t.answer) same) h);
-}
+solves names words search was middle now r same rest s ended h =
+    let solved : Solved search.model (problem_of search.model) search.conflicts r was now =
+    subst (λ (p : Csp). Solved search.model p search.conflicts r was now) s.problem.posed
+    (moved_solved search.model search.problem search.conflicts r was middle now (ap (λ (t : Sight). t.answer) same) h) in
+    record {
+      model = s.name;
+      out = string_bytes search.out;
+      most = search.conflicts;
+      asked = s.asked;
+      m = search.model;
+      given = s.given;
+      ended =
+          subst IsAtEnd (sym (ap (λ (t : Sight). t.model) rest))
+          (model_ended ended.request words middle ended.asked ended.ended (searched_words names words search s));
+      solved = solved;
+      decided = decided_by (problem_of search.model) search.conflicts solved.outcome (subst IsProblem s.problem.posed s.problem.sound) solved.found;
+    }
 
 -- fronts of its scaffold and of its text stand there
 solves_part : (names : Option Files) (words : List (List ℕ)) (search : Search) (was middle now : Sight) →

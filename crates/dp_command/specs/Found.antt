@@ -5,7 +5,7 @@ use Rattle.dp_domain.specs.declared.verdict.Verdict.{Verdict}
 use Rattle.dp_judge.specs.Logs.{IsOfGoal}
 use Rattle.dp_checker.specs.Kept.{IsRight}
 use Rattle.dp_lower.specs.Problem.{problem_of}
-use Rattle.dp_parts.specs.Problems.{Csp, IsSolution}
+use Rattle.dp_parts.specs.Problems.{Csp, IsProblem, IsSolution}
 use Rattle.fz_items.specs.Answers.{model_text}
 use Rattle.fz_model.specs.Models.{Plan}
 use Rattle.fz_sat.specs.Satisfies.{Satisfies}
@@ -16,9 +16,10 @@ use Rattle.dp_command.specs.Replies.{most_of_model}
 use Rattle.dp_command.specs.declared.finding.Found.{Found}
 use Rattle.dp_command.specs.declared.finding.Found.TheVariants.{Problem, Refusal}
 
--- the problem is the model's and has its solutions, and what is right of it, as a conclusion on the goal, is true of the model
+-- the problem is the model's, is lawful and has its solutions, and what is right of it, as a conclusion on the goal, is true of the model
 pub record IsProblemOf (m : Plan) (p : Csp) : Type 0 where
   pub posed : p ≡ problem_of m
+  pub sound : IsProblem p
   pub same : (s : ℕ → ℤ) → Satisfies m s ↔ IsSolution s p
   pub true_of : (v : Verdict) → IsRight p v → IsOfGoal p v → IsTrueOf m (claim_of p v)
 

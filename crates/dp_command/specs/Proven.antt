@@ -1,11 +1,12 @@
 -- What is said of a model that is proved, and where that is refused.
-use Rattle.std.specs.Prelude.{◌≡◌, ℕ, ◌++◌, Option, Some, None, List}
+use Rattle.std.specs.Prelude.{◌≡◌, ℕ, ◌≤◌, ◌^◌, ◌++◌, Option, Some, None, List}
 use Rattle.dp_desk.specs.Channel.{Channel, Files, Grows}
 use Rattle.dp_domain.specs.Atoms.{Atomic}
 use Rattle.dp_domain.specs.declared.verdict.Verdict.{Verdict}
 use Rattle.dp_judge.specs.Logs.{judged_log}
 use Rattle.dp_judge.specs.declared.answer.LogAnswer.TheVariants.{Accepted}
 use Rattle.dp_learning.specs.Scaffolds.{scaffold_of}
+use Rattle.dp_learning.specs.Sorts.{sort_count}
 use Rattle.dp_lower.specs.Problem.{problem_of}
 use Rattle.dp_parts.specs.Problems.{Csp, posed}
 use Rattle.dp_process.specs.Met.{EachMetFollows}
@@ -16,6 +17,7 @@ use Rattle.fz_prove.specs.declared.proof.Proof.{Proof}
 use Rattle.dp_scaffold.specs.Scaffolds.{Learned}
 use Rattle.dp_scaffold.specs.Texts.{scaffold_text}
 use Rattle.dp_scaffold.specs.declared.answer.ScaffoldAnswer.TheVariants.{Given}
+use Rattle.dp_solver.specs.Outcomes.{IsDecided}
 use Rattle.dp_solver.specs.declared.outcome.Outcome.{Outcome}
 use Rattle.dp_writer.specs.Steps.{text_of}
 use Rattle.fz_model.specs.Models.{Plan}
@@ -47,7 +49,7 @@ IsTold m p outcome nogoods None text status = (text ≡ outcome_text m outcome) 
 IsTold m p outcome nogoods (Some claim) text status = IsChecked m p outcome nogoods claim text status
 
 -- The words ask to prove a model, which is read. A search of its problem found an outcome. What it says is true of the model, and
--- it was told.
+-- it was told. With room for as many nogoods as there are sets of sorts of atoms it is known.
 pub record SaysProof (names : Option Files) (words : List (List ℕ)) (status : ℕ) (was now : Channel) : Type 0 where
   pub model : List ℕ
   pub workers : ℕ
@@ -58,6 +60,7 @@ pub record SaysProof (names : Option Files) (words : List (List ℕ)) (status : 
   pub outcome : Outcome
   pub found : Finds (problem_of m) most outcome
   pub truth : IsTruth m outcome
+  pub decided : 2 ^ sort_count (problem_of m).initial ≤ most → IsDecided outcome
   pub text : List ℕ
   pub told : IsTold m (problem_of m) outcome found.nogoods found.claim text status
   pub written : Grows was now text

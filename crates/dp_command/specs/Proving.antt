@@ -1,7 +1,9 @@
 -- What proving a model ends with, by the own names of variables.
-use Rattle.std.specs.Prelude.{◌≡◌, ℕ}
+use Rattle.std.specs.Prelude.{◌≡◌, ℕ, ◌≤◌, ◌^◌}
 use Rattle.dp_judge.specs.Logs.{IsOfGoal}
+use Rattle.dp_learning.specs.Sorts.{sort_count}
 use Rattle.dp_parts.specs.Problems.{Csp}
+use Rattle.dp_solver.specs.Outcomes.{IsDecided}
 use Rattle.fz_model.specs.Models.{Plan}
 use Rattle.fz_prove.specs.Proofs.{Proves}
 use Rattle.fz_prove.specs.declared.proof.Proof.{Proof}
@@ -33,9 +35,10 @@ IsTrueProving m (Accepted text claim) = IsTrueOf m claim
 IsTrueProving m proving = Unit {0}
 
 -- The model, with this problem, is solved with at most so many nogoods, and the scaffold is processed and checked; it ends so,
--- and what is accepted is true of the model.
+-- and what is accepted is true of the model. With room for as many nogoods as there are sets of sorts of atoms the outcome is known.
 pub record IsProving (m : Plan) (p : Csp) (most : ℕ) (proving : Proving) : Type 0 where
   pub end : Proof
   pub proves : Proves m p most end
   pub told : proving ≡ proving_of p end
   pub holds : IsTrueProving m proving
+  pub decided : 2 ^ sort_count p.initial ≤ most → IsDecided proves.outcome

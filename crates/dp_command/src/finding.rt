@@ -59,7 +59,9 @@ fn find_problem(alloc: Global, text: &[u8]) -> Result<Found, Memory>
 fn problem_of(alloc: Global, model: &Model) -> Result<Problem, Memory>
     ensures { IfOk result (IsProblemOf model.now) }
 {
+    // What a model and a problem keep is known by a look at them.
     let _goal = model.goal();
     let problem = lower(alloc, model)?;
+    let _aim = problem.goal();
     Ok(problem)
 }
