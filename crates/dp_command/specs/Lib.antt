@@ -13,6 +13,7 @@ pub mod Proved
 pub mod Proven
 pub mod Families
 pub mod Found
+pub mod Spelled
 pub mod Solving
 pub mod Tasks
 pub mod Patience

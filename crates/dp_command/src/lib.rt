@@ -5,6 +5,7 @@ mod check;
 mod finding;
 mod generate;
 mod judging;
+mod laws;
 mod naming;
 mod outcome;
 mod process;
@@ -21,6 +22,7 @@ mod trouble;
 mod unfailing;
 mod words;
 
+pub use laws::models_are_spelled;
 pub use program::run;
 pub(crate) use trouble::Trouble;
 pub use unfailing::run_unfailing;
