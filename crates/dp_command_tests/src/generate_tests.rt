@@ -1,5 +1,4 @@
 use crate::runs::desk_of;
-use dp_base::{Name, Text};
 use dp_command::run;
 use dp_desk::{MemoryDesk, Out};
 use dp_pool::Open;
@@ -57,61 +56,6 @@ fn each_failed_call_is_told(rt: HostRuntime) -> Result<(), Fail> {
             "call {call} fails"
         );
         assert!(rt; holds(&desk, "", model, scaffold), "call {call} fails");
-    }
-    Ok(())
-}
-
-// The bytes of an output of a run.
-fn output_of(alloc: Global, desk: &MemoryDesk, which: Out) -> Result<Vec<u8>, AllocError> {
-    desk.written(which).unwrap_or(b"not told").to_vec(alloc)
-}
-
-// A desk with these two files.
-fn desk_with(alloc: Global, model: Vec<u8>, lines: Vec<u8>) -> Result<MemoryDesk, AllocError> {
-    let mut files = Vec::new(alloc);
-    files.push((Name::new(b"m".to_vec(alloc)?), Text::new(model)))?;
-    files.push((Name::new(b"l".to_vec(alloc)?), Text::new(lines)))?;
-    Ok(MemoryDesk::new(alloc, files, 1_000_000, Vec::new(alloc)))
-}
-
-const PROCESSED: [(&str, &str, &str); 2] = [
-    (
-        "2",
-        "generated: 6 variables, 6 constraints, 3 nogoods\n",
-        "processed: 1 of 3 nogoods kept, 8 steps\n",
-    ),
-    (
-        "1000",
-        "generated: 2002 variables, 2002 constraints, 1001 nogoods\n",
-        "processed: 999 of 1001 nogoods kept, 3002 steps\n",
-    ),
-];
-
-#[test]
-fn a_family_is_processed_and_its_log_accepted(rt: HostRuntime) -> Result<(), Fail> {
-    let alloc = rt.alloc();
-    for (n, sizes, counts) in PROCESSED {
-        let mut desk = empty_desk(alloc, 1_000_000, &[])?;
-        assert_eq!(rt; run(&rt, alloc, &["gen", n, "m", "s"], &mut desk, &Open), 0);
-        assert_eq!(rt; desk.written(Out::Answer), Some(sizes.as_bytes()));
-        let model = output_of(alloc, &desk, Out::First)?;
-        let again = model.as_slice().to_vec(alloc)?;
-        let scaffold = output_of(alloc, &desk, Out::Second)?;
-
-        let mut desk = desk_with(alloc, model, scaffold)?;
-        assert_eq!(rt;
-            run(&rt, alloc, &["process", "m", "l", "o"], &mut desk, &Open),
-            0
-        );
-        assert_eq!(rt; desk.written(Out::Answer), Some(counts.as_bytes()));
-        let log = output_of(alloc, &desk, Out::First)?;
-
-        let mut desk = desk_with(alloc, again, log)?;
-        assert_eq!(rt; run(&rt, alloc, &["check", "m", "l"], &mut desk, &Open), 0);
-        assert_eq!(rt;
-            desk.written(Out::Answer),
-            Some(b"accepted: UNSAT\n".as_slice())
-        );
     }
     Ok(())
 }
