@@ -15,7 +15,7 @@ from .tables import TABLES, Table
 from .tools import HOME, Answer, Workshop, call, compiled, minizinc, want, want_in
 
 COMPLETE = "=========="
-NOT_READ = r"int_(times|div|mod|pow\w*|max|min|abs)|array_int_m\w+|bool_lin_\w+|array_bool_xor|\w+_imp"
+NOT_READ = r"int_(div|mod|pow\w*)|array_int_m\w+|bool_lin_\w+|array_bool_xor|\w+_imp"
 
 PAIRS = "var 0..2: x; var 0..2: y; constraint x < y; var bool: b; constraint b <-> x = 1;"
 CLIMB = """array[1..7] of var 0..1: x; constraint sum(i in 1..7)((i + 3) * x[i]) <= 24;
