@@ -6,8 +6,6 @@ mod check_tests;
 #[cfg(test)]
 mod fault_tests;
 #[cfg(test)]
-mod gate_tests;
-#[cfg(test)]
 mod generate_tests;
 #[cfg(test)]
 mod patience_tests;
